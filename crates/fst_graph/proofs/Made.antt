@@ -54,7 +54,7 @@ pub more_as : {old new : Columns} {p q : Patch} {rank own : Rank} → p ≡ q �
 more_as same at P = rw (← same, ← at) P
 
 -- a gate that is put down is added
-pub gate_added : {old new : Columns} {n : ℕ} {row : List ℕ} → HasOneMore (fresh n OpenGate row) (record { number = n; level = top_level; ancestry = no_ancestry }) old new → GoesUnder (patches_of old.heads.items) n row no_ancestry → vec_len old.heads < vec_capacity new.queue → IsAdded (fresh n OpenGate row) old new
+pub gate_added : {old new : Columns} {n : ℕ} {row : List ℕ} → HasOneMore (fresh n OpenGate row) (record { number = n; level = top_level; ancestry = no_ancestry; hard_over = 0 }) old new → GoesUnder (patches_of old.heads.items) n row no_ancestry → vec_len old.heads < vec_capacity new.queue → IsAdded (fresh n OpenGate row) old new
 gate_added P under free = record { level = top_level; ancestry = no_ancestry; under = under; head = P; over = λ q c few. few; most = omega arith; top = λ e. refl; free = free }
 
 pub put_rising : (heads new : List Head) (p : Patch) (numbers : ℕ) → nodes_of new ≡ with_node (nodes_of heads) p → SparseAreLawful (patches_of heads ++ p ∷ []) numbers → IsRising new
@@ -193,7 +193,7 @@ module _ {s : Inside} (S : AreSound s) where
         }
 
     -- the change stands as it rises, beside what its block has already
-    pub change_sound : (walk : Trail) (places : List Bool) {rise : Rise} {a : Ancestry} {columns : Columns} {lifted : Leveling} → HasOneMore made (record { number = s.numbers + 1; level = rise.level; ancestry = a }) (record s.columns { ends = walked walk places; levels = lifted }) columns
+    pub change_sound : (walk : Trail) (places : List Bool) {rise : Rise} {a : Ancestry} {columns : Columns} {lifted : Leveling} → HasOneMore made (record { number = s.numbers + 1; level = rise.level; ancestry = a; hard_over = 0 }) (record s.columns { ends = walked walk places; levels = lifted }) columns
         → {over : Pending} → over ≡ node → {hs : List Head} {row : List ℕ} → hs ≡ s.columns.heads.items → row ≡ p.dependencies.items → IsRise (patches_of hs) s.columns.levels p.block row p.told.grade (numbers_met hs walk) rise → length walk.marks ≡ length hs
         → {hs : List Head} → hs ≡ s.columns.heads.items → IsLeveled (patches_of hs) (length s.columns.levels.floors) lifted
         → ((n : ℕ) → level_of s.columns.levels.ranks n ≤ rise.level → level_of lifted.ranks n ≤ rise.level) → (rise.lifts ≡ true → floor_of lifted.floors p.block ≡ rise.level) → (rise.lifts ≡ false → lifted ≡ s.columns.levels)

@@ -13,7 +13,7 @@ use Rattle.fst_levels.proofs.LeveledKept.{alike_is_leveled, fresh_is_leveled}
 
 -- the same levels, perhaps with more room
 pub leveled_as : {patches : List Patch} {blocks : ℕ} {levels ranked : Leveling} → ranked.ranks ≡ levels.ranks → ranked.floors ≡ levels.floors → IsLeveled patches blocks levels → IsLeveled patches blocks ranked
-leveled_as ranks floors L = record { aligned = rw ranks L.aligned; long = rw floors L.long; leveled = rw (ranks, floors) L.leveled; parents = rw ranks L.parents; jumps = rw ranks L.jumps }
+leveled_as ranks floors L = record { aligned = rw ranks L.aligned; long = rw floors L.long; leveled = rw (ranks, floors) L.leveled; parents = rw ranks L.parents; jumps = rw ranks L.jumps; overs = rw ranks L.overs }
 
 -- or seen by heads that are handed on
 pub leveled_then : {seen heads : List Head} {many blocks : ℕ} {levels : Leveling} → seen ≡ heads → many ≡ blocks → IsLeveled (patches_of seen) many levels → IsLeveled (patches_of heads) blocks levels
@@ -25,7 +25,7 @@ leveled_moved {old} {new} {blocks} {levels} A L = alike_is_leveled old new A blo
 -- a patch more, whose rank comes last
 module _ {old : List Patch} {numbers blocks : ℕ} {levels grown : Leveling} (p : Patch) (l : ℕ) (a : Ancestry) (H : HasOnePlaceEach old numbers) (next : p.number ≡ numbers + 1)
     (given : (q : ℕ) → Contains p.dependencies q → q ≤ numbers)
-    (ranks : grown.ranks ≡ levels.ranks ++ record { number = p.number; level = l; ancestry = a } ∷ []) (floors : grown.floors ≡ levels.floors)
+    (ranks : grown.ranks ≡ levels.ranks ++ record { number = p.number; level = l; ancestry = a; hard_over = 0 } ∷ []) (floors : grown.floors ≡ levels.floors)
     (row : (q : ℕ) → Contains p.dependencies q → level_of levels.ranks q ≤ l) (few : l ≤ top_level) (under : GoesUnder old p.number p.dependencies a) (L : IsLeveled old blocks levels) where
   pub leveled_put : ((b : ℕ) → IsOn p b → floor_of levels.floors b ≤ l) → ((b : ℕ) → IsOn p b → IsHard p → l ≤ floor_of levels.floors b) → (IsOpenGate p → l ≡ top_level) → IsLeveled (old ++ p ∷ []) blocks grown
   leveled_put above below gate = leveled_as ranks floors (fresh_is_leveled old numbers blocks p H next given levels l a row above below gate few under L)
@@ -54,7 +54,7 @@ module _ {old : List Patch} {numbers blocks : ℕ} {levels lifted : Leveling} (p
   same_grade : IsHard (change_of numbers p) → p.told.grade ≡ grade.Hard
   same_grade hard = cc
 
-  pub leveled_change : {grown : Leveling} {a : Ancestry} → GoesUnder old (numbers + 1) p.dependencies.items a → grown.ranks ≡ lifted.ranks ++ record { number = numbers + 1; level = rise.level; ancestry = a } ∷ [] → grown.floors ≡ lifted.floors → IsLeveled (old ++ change_of numbers p ∷ []) blocks grown
+  pub leveled_change : {grown : Leveling} {a : Ancestry} → GoesUnder old (numbers + 1) p.dependencies.items a → grown.ranks ≡ lifted.ranks ++ record { number = numbers + 1; level = rise.level; ancestry = a; hard_over = 0 } ∷ [] → grown.floors ≡ lifted.floors → IsLeveled (old ++ change_of numbers p ∷ []) blocks grown
   leveled_change {a = a} under ranks floors =
       leveled_put (change_of numbers p) rise.level a H refl given ranks floors (λ q c. below q (R.over q c)) R.few under L
       (λ b on. subst (λ k. floor_of lifted.floors k ≤ rise.level) (same_block b on) floor_under)

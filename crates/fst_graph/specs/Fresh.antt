@@ -59,7 +59,7 @@ pub record IsAdded (p : Patch) (old new : Columns) : Type 0 where
   pub level : ℕ
   pub ancestry : Ancestry
   pub under : GoesUnder (patches_of old.heads.items) p.number p.dependencies ancestry
-  pub head : HasOneMore p (record { number = p.number; level = level; ancestry = ancestry }) old new
+  pub head : HasOneMore p (record { number = p.number; level = level; ancestry = ancestry; hard_over = 0 }) old new
   pub over : (q : ℕ) → Contains p.dependencies q → level_of old.levels.ranks q ≤ top_level → level_of old.levels.ranks q ≤ level
   pub most : level ≤ top_level
   pub top : IsOpenGate p → level ≡ top_level

@@ -36,12 +36,13 @@ pub struct Columns {
 
 // The rank of a new gate.
 fn at_the_top(number: u32) -> Rank
-    ensures { result ≡ record { number = number; level = top_level; ancestry = no_ancestry } }
+    ensures { result ≡ record { number = number; level = top_level; ancestry = no_ancestry; hard_over = 0 } }
 {
     Rank {
         number,
         level: TOP,
         ancestry: no_ancestry(),
+        hard_over: 0,
     }
 }
 
@@ -128,6 +129,7 @@ impl Columns {
                 fresh.dependencies.as_slice(),
                 fresh.number,
             ),
+            hard_over: 0,
         };
         self.put_down(alloc, fresh, rank);
         Ok(())

@@ -1,11 +1,11 @@
--- What keeps ancestors: the same patches later or fewer of them, a gate that gains names or has other ancestors, and a patch more.
+-- What keeps ancestors, and what is kept over a patch: the same patches later or fewer of them, a gate that gains names or has other ancestors, another over a patch, and a patch more.
 use Rattle.std.proofs.Common.{◌≡◌, ◌≢◌, ◌<◌, ◌+◌, ◌++◌, ◌∷◌, [], ℕ, List, filter, map, Contains, refl, sym, ap, subst, ◌∙◌, inl, inr, arith}
 use Rattle.std.proofs.lemmas.{Bool.cases_eq, List.Elements.{Contains-push, Contains-push_cases}}
-use Rattle.fst_types.specs.{Closure.{one, join}, Dependencies.{DependsOn, DirectlyOn}, Facts.{HasOnePlaceEach, IsOnDiskWithAll}, Gating.gains, Patches.{IsLive, Patch}, Tests.is_live}
+use Rattle.fst_types.specs.{Closure.{one, join}, Dependencies.{DependsOn, DirectlyOn, IsLiveNumber}, Facts.{HasOnePlaceEach, IsOnDiskWithAll}, Gating.gains, Patches.Patch, Tests.is_live}
 use Rattle.fst_types.proofs.{Alike.{Alike, back_alike}, Dropping.filter_in, Finite.{Contains-from_In, In-from_Contains}}
 use Rattle.fst_heads.specs.Grading.{HasUnder}
 use Rattle.fst_heads.proofs.{Covering.{depends_forth, depends_gained, depends_left, depends_with, was_gained}}
-use Rattle.fst_levels.specs.Ancestors.{AreOver, MayStandUnder}
+use Rattle.fst_levels.specs.Ancestors.{AreOver, AreUnder, MayStandUnder}
 use Rattle.fst_types.proofs.Numbers.{not_disk}
 
 -- ancestors that are the same of each patch
@@ -37,21 +37,22 @@ over_gained old g names above S = record {
   older = λ p h. let o = was_gained old g names p h in let k = S.older o.0 o.1 in omega (arith, k, o.2.number, ap above o.2.number);
 }
 
--- what is on disk is forgotten, and the ancestors of the patches that are left stay
+-- what is on disk is forgotten
+was_there : (old : List Patch) (p : Patch) → Contains (filter is_live old) p → Contains old p
+was_there old p h = Contains-from_In old p (filter_in is_live old p (In-from_Contains (filter is_live old) p h)).0
+
+left_number : (old : List Patch) (p : Patch) → Contains (filter is_live old) p → IsLiveNumber old p.number
+left_number old p h = record { patch = p; head = was_there old p h; numbered = refl; live = not_disk p.place (filter_in is_live old p (In-from_Contains (filter is_live old) p h)).1 }
+
+-- and the ancestors of the patches that are left stay
 pub left_over : (old : List Patch) → IsOnDiskWithAll old → (above above' : ℕ → ℕ) → ((p : Patch) → Contains (filter is_live old) p → above' p.number ≡ above p.number)
     → AreOver old above → AreOver (filter is_live old) above'
 left_over old disk above above' same S = record {
   over = λ p q h k e.
-      let was = S.over p q (was_there p h) (was_there q k) (sym (same p h) ∙ e) in
-      depends_left old disk p.number q.number was (record { patch = q; head = was_there q k; numbered = refl; live = still_live q k });
-  older = λ p h. let k = S.older p (was_there p h) in omega (arith, k, same p h);
+      let was = S.over p q (was_there old p h) (was_there old q k) (sym (same p h) ∙ e) in
+      depends_left old disk p.number q.number was (left_number old q k);
+  older = λ p h. let k = S.older p (was_there old p h) in omega (arith, k, same p h);
 }
-  where
-    was_there : (p : Patch) → Contains (filter is_live old) p → Contains old p
-    was_there p h = Contains-from_In old p (filter_in is_live old p (In-from_Contains (filter is_live old) p h)).0
-
-    still_live : (q : Patch) (k : Contains (filter is_live old) q) → IsLive q
-    still_live q k = not_disk q.place (filter_in is_live old q (In-from_Contains (filter is_live old) q k)).1
 
 -- what is in the row or below it is below who has the row
 under_row : (patches : List Patch) (n a : ℕ) (row : List ℕ) → ((m : ℕ) → Contains row m → DirectlyOn patches n m) → HasUnder patches row (λ m. m ≡ a) → DependsOn patches n a
@@ -114,3 +115,42 @@ module _ (old : List Patch) (numbers : ℕ) (p : Patch) (H : HasOnePlaceEach old
       | inr e ↦ subst (λ (y : Patch). above' y.number < y.number) e may.older
     ];
   }
+
+-- what is kept over a patch, where it is the same of each
+pub under_as : (patches : List Patch) (over over' : ℕ → ℕ) → ((n : ℕ) → over' n ≡ over n) → AreUnder patches over → AreUnder patches over'
+under_as patches over over' same S p h some = rw (same p.number) (S p h (λ e. some (same p.number ∙ e)))
+
+-- the same patches at other places, or sealed
+pub under_alike : (old new : List Patch) → Alike old new → (over : ℕ → ℕ) → AreUnder old over → AreUnder new over
+under_alike old new A over S p h some =
+    let o = back_alike old new A p h in
+    depends_forth old new A (over p.number) p.number (subst (λ m. DependsOn old (over m) m) (sym o.2.number) (S o.0 o.1 (λ e. some (ap over o.2.number ∙ e))))
+
+-- an open gate gains names
+pub under_gained : (old : List Patch) (g : ℕ) (names : List ℕ) (over : ℕ → ℕ) → AreUnder old over → AreUnder (map (gains g names) old) over
+under_gained old g names over S p h some =
+    let o = was_gained old g names p h in
+    depends_gained old g names (over p.number) p.number (subst (λ m. DependsOn old (over m) m) (sym o.2.number) (S o.0 o.1 (λ e. some (ap over o.2.number ∙ e))))
+
+-- what is on disk is forgotten
+pub left_under : (old : List Patch) → IsOnDiskWithAll old → (over over' : ℕ → ℕ) → ((p : Patch) → Contains (filter is_live old) p → over' p.number ≡ over p.number)
+    → AreUnder old over → AreUnder (filter is_live old) over'
+left_under old disk over over' same S p h some =
+    rw (same p h) (depends_left old disk (over p.number) p.number (S p (was_there old p h) (λ e. some (same p h ∙ e))) (left_number old p h))
+
+-- another is kept over one patch
+pub under_put : (patches : List Patch) (n : ℕ) (over over' : ℕ → ℕ) → ((m : ℕ) → m ≢ n → over' m ≡ over m) → DependsOn patches (over' n) n → AreUnder patches over → AreUnder patches over'
+under_put patches n over over' same below S p h some = elim (cases_eq p.number n) [
+  | inl own ↦ subst (λ m. DependsOn patches (over' m) m) (sym own) below
+  | inr other ↦ rw (same p.number other) (S p h (λ e. some (same p.number other ∙ e)))
+]
+
+-- one patch more, with the greatest number, over which none is kept
+pub fresh_under : (old : List Patch) (numbers : ℕ) (p : Patch) → HasOnePlaceEach old numbers → p.number ≡ numbers + 1 → (over over' : ℕ → ℕ) → ((n : ℕ) → n ≢ p.number → over' n ≡ over n) → over' p.number ≡ 0
+    → AreUnder old over → AreUnder (old ++ p ∷ []) over'
+fresh_under old numbers p H next over over' same none S q h some = elim (Contains-push_cases old p q h) [
+  | inl before ↦
+      let stays = same q.number (λ e. let k = (H.numbered q before).1 in omega (arith, k, e, next)) in
+      rw stays (depends_with old p (over q.number) q.number (S q before (λ e. some (stays ∙ e))))
+  | inr e ↦ absurd (some (ap (λ (x : Patch). over' x.number) (sym e) ∙ none))
+]

@@ -30,4 +30,5 @@ module _ (patches : List Patch) (blocks b to : ℕ) (none : (n : ℕ) → Passes
     };
     parents = L.parents;
     jumps = L.jumps;
+    overs = L.overs;
   }

@@ -3,8 +3,8 @@ use Rattle.std.proofs.Common.{◌≡◌, ◌≤◌, ◌<◌, ◌/◌, ◌==◌, 
 use Rattle.std.proofs.lemmas.{Bool.{cases_lt, cases_Bool, Decides.{nat_tests}}, List.{length-map}}
 use Rattle.std.proofs.Math.ListN.{get_or-map}
 use Rattle.fst_types.specs.Patches.{Patch}
-use Rattle.fst_levels.specs.{Leveling.{halved, halved_rank, kept_under, level_of, parent_of, jump_of, floor_of, top_level, IsLeveled, Leveling}, declared.levels.Rank.{Rank}}
-use Rattle.fst_levels.proofs.AncestorsKept.{over_as}
+use Rattle.fst_levels.specs.{Leveling.{halved, halved_rank, kept_under, hard_over_of, level_of, parent_of, jump_of, floor_of, top_level, IsLeveled, Leveling}, declared.levels.Rank.{Rank}}
+use Rattle.fst_levels.proofs.AncestorsKept.{over_as, under_as}
 
 pub low_half : (n : ℕ) → n < top_level → halved n ≡ n / 2
 low_half n lt = let low : nat_lt n top_level ≡ true = grind (arith, nat_tests) in ap (λ b. cond b (n / 2) n) low
@@ -66,4 +66,5 @@ module _ (patches : List Patch) (blocks : ℕ) (old new : Leveling) (ranks : new
     };
     parents = over_as patches (parent_of old.ranks) (parent_of new.ranks) (λ n. ap (λ rs. parent_of rs n) ranks ∙ kept_stays (λ r. r.ancestry.parent) (λ r. refl) old.ranks n) L.parents;
     jumps = over_as patches (jump_of old.ranks) (jump_of new.ranks) (λ n. ap (λ rs. jump_of rs n) ranks ∙ kept_stays (λ r. r.ancestry.jump) (λ r. refl) old.ranks n) L.jumps;
+    overs = under_as patches (hard_over_of old.ranks) (hard_over_of new.ranks) (λ n. ap (λ rs. hard_over_of rs n) ranks ∙ kept_stays (λ r. r.hard_over) (λ r. refl) old.ranks n) L.overs;
   }

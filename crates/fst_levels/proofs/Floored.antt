@@ -4,8 +4,8 @@ use Rattle.std.proofs.lemmas.Bool.{cases_eq}
 use Rattle.fst_types.specs.{Facts.IsOnDiskWithAll, Patches.Patch}
 use Rattle.fst_types.proofs.Finite.{In, In-from_Contains, Contains-from_In}
 use Rattle.fst_heads.specs.{Grading.IsHardNumber}
-use Rattle.fst_levels.specs.{Leveling.{IsLeveled, Leveling, jump_of, level_of, parent_of, floor_of}, Lifting.{IsLifted, MayLift}}
-use Rattle.fst_levels.proofs.{AncestorsKept.over_as, Lifted.lifted, Raised.kept_as}
+use Rattle.fst_levels.specs.{Leveling.{IsLeveled, Leveling, hard_over_of, jump_of, level_of, parent_of, floor_of, unleveled}, Lifting.{IsLifted, MayLift}}
+use Rattle.fst_levels.proofs.{AncestorsKept.{over_as, under_as}, Lifted.lifted, Raised.kept_as}
 
 -- whether a number is in a list
 in_or_not : (ns : List ℕ) (n : ℕ) → In ns n ⊎ (In ns n → ⊥)
@@ -72,6 +72,7 @@ module _ (heads : List Patch) (disk : IsOnDiskWithAll heads) (blocks b to : ℕ)
         may.meets.live may.meets.low met_or_not may.above may.at_most may.few may.at_least
         (level_of raised.ranks) (floor_of floors) L.raised L.rest own_floor crossed_floor
         (λ c other none. other_floor c other ∙ L.other_floors c none) crossed_or_not;
-    parents = over_as heads (parent_of levels.ranks) (parent_of raised.ranks) (kept_as (λ r. r.ancestry) (λ a. a.parent) levels.ranks raised.ranks L.numbers L.ancestries) x.parents;
-    jumps = over_as heads (jump_of levels.ranks) (jump_of raised.ranks) (kept_as (λ r. r.ancestry) (λ a. a.jump) levels.ranks raised.ranks L.numbers L.ancestries) x.jumps;
+    parents = over_as heads (parent_of levels.ranks) (parent_of raised.ranks) (kept_as unleveled (λ r. r.ancestry.parent) levels.ranks raised.ranks L.numbers L.beside) x.parents;
+    jumps = over_as heads (jump_of levels.ranks) (jump_of raised.ranks) (kept_as unleveled (λ r. r.ancestry.jump) levels.ranks raised.ranks L.numbers L.beside) x.jumps;
+    overs = under_as heads (hard_over_of levels.ranks) (hard_over_of raised.ranks) (kept_as unleveled (λ r. r.hard_over) levels.ranks raised.ranks L.numbers L.beside) x.overs;
   }

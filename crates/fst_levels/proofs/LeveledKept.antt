@@ -4,8 +4,8 @@ use Rattle.std.proofs.lemmas.{Bool.{cases_eq}, List.{map-append}, List.Elements.
 use Rattle.fst_types.specs.{Dependencies.DirectlyOn, Facts.HasOnePlaceEach, Gates.IsOpenNumber, Patches.{Patch, IsOn, IsHard, IsOpenGate}}
 use Rattle.fst_types.proofs.{Alike.{Alike, Like, like_self, back_alike, numbers_alike, direct_back, on_back, grade_same, open_back}, Finite.{In-from_Contains, Contains-from_In}, GateGains.In-unmap}
 use Rattle.fst_heads.specs.{Grading.IsHardNumber, Indices.PassesAt}
-use Rattle.fst_levels.specs.{Leveling.{AreLeveled, IsLeveled, Leveling, jump_of, level_of, parent_of, floor_of, top_level}, Ancestors.{GoesUnder, MayStandUnder}, declared.levels.{Ancestry.Ancestry, Rank.Rank}}
-use Rattle.fst_levels.proofs.{Leveled.{live_passes, passed_on}, Ranked.{kept_other, kept_new, number_of}, AncestorsKept.{fresh_over, over_alike}}
+use Rattle.fst_levels.specs.{Leveling.{AreLeveled, IsLeveled, Leveling, hard_over_of, jump_of, level_of, parent_of, floor_of, top_level}, Ancestors.{GoesUnder, MayStandUnder}, declared.levels.{Ancestry.Ancestry, Rank.Rank}}
+use Rattle.fst_levels.proofs.{Leveled.{live_passes, passed_on}, Ranked.{kept_other, kept_new, number_of}, AncestorsKept.{fresh_over, fresh_under, over_alike, under_alike}}
 use Rattle.fst_heads.specs.declared.test.Test.TheVariants as test
 
 -- each new patch was one of the old ones, perhaps at another place, and has the level that it had
@@ -57,6 +57,7 @@ alike_is_leveled old new A blocks levels x = record {
   leveled = alike_leveled old new A (level_of levels.ranks) (floor_of levels.floors) x.leveled;
   parents = over_alike old new A (parent_of levels.ranks) x.parents;
   jumps = over_alike old new A (jump_of levels.ranks) x.jumps;
+  overs = under_alike old new A (hard_over_of levels.ranks) x.overs;
 }
 
 -- some of the patches
@@ -141,7 +142,7 @@ module _ (old : List Patch) (numbers blocks : ℕ) (p : Patch) (H : HasOnePlaceE
     (above : (b : ℕ) → IsOn p b → floor_of levels.floors b ≤ l) (below : (b : ℕ) → IsOn p b → IsHard p → l ≤ floor_of levels.floors b)
     (gate : IsOpenGate p → l ≡ top_level) (few : l ≤ top_level) (under : GoesUnder old p.number p.dependencies a) (x : IsLeveled old blocks levels) where
   abbrev rank : Rank
-  rank = record { number = p.number; level = l; ancestry = a }
+  rank = record { number = p.number; level = l; ancestry = a; hard_over = 0 }
 
   abbrev level' : ℕ → ℕ
   level' = level_of (levels.ranks ++ rank ∷ [])
@@ -182,4 +183,7 @@ module _ (old : List Patch) (numbers blocks : ℕ) (p : Patch) (H : HasOnePlaceE
     jumps = fresh_over old numbers p H next (jump_of levels.ranks) (jump_of (levels.ranks ++ rank ∷ []))
         (λ n other. kept_other (λ r. r.ancestry.jump) levels.ranks rank n other)
         (subst (MayStandUnder old p.number p.dependencies) (sym jump_here) under.jump) x.jumps;
+    overs = fresh_under old numbers p H next (hard_over_of levels.ranks) (hard_over_of (levels.ranks ++ rank ∷ []))
+        (λ n other. kept_other (λ r. r.hard_over) levels.ranks rank n other)
+        (kept_new (λ r. r.hard_over) levels.ranks rank unranked) x.overs;
   }

@@ -38,6 +38,7 @@ mod Renewed
 pub mod Ancestral
 pub mod Releveled
 mod Floored
+pub mod KeptOver
 pub mod NoWayBack
 mod Straight
 mod NeedsKept

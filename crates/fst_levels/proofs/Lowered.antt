@@ -4,8 +4,8 @@ use Rattle.std.proofs.lemmas.Bool.{cases_eq}
 use Rattle.fst_types.specs.{Dependencies.DirectlyOn, Gates.IsOpenNumber, Patches.{IsOn, OpenGate, Patch}}
 use Rattle.fst_heads.specs.{Heads.{IsRising, patch_of, patches_of}, Indices.{HasIndex, PassesAt}, declared.head.Head.Head}
 use Rattle.fst_heads.proofs.Indices.{named_at, patch_is}
-use Rattle.fst_levels.specs.{Leveling.{AreLeveled, IsLeveled, Leveling, floor_of, jump_of, level_of, parent_of, top_level}, Walks.number_at, declared.levels.Rank.Rank}
-use Rattle.fst_levels.proofs.{AncestorsKept.over_as, Leveled.passed_on, Raised.kept_as, Ranked.{no_rank, rank_level, rank_number}, MetNumbers.index_at}
+use Rattle.fst_levels.specs.{Leveling.{AreLeveled, IsLeveled, Leveling, floor_of, hard_over_of, jump_of, level_of, parent_of, top_level, unleveled}, Walks.number_at, declared.levels.Rank.Rank}
+use Rattle.fst_levels.proofs.{AncestorsKept.{over_as, under_as}, Leveled.passed_on, Raised.kept_as, Ranked.{no_rank, rank_level, rank_number}, MetNumbers.index_at}
 use Rattle.fst_heads.specs.declared.test.Test.TheVariants as test
 
 module _ (heads : List Head) (rising : IsRising heads) (s : ℕ) (lt : s < length heads) (here : Head) (is_here : here ≡ get_or heads s here) where
@@ -67,9 +67,9 @@ module _ (heads : List Head) (rising : IsRising heads) (s : ℕ) (lt : s < lengt
   pub lowered_is_leveled : (blocks to : ℕ) (old new : Leveling) → ((q : ℕ) → Contains here.dependencies.items q → level_of old.ranks q ≤ to) → ((d : Rank) → to < (get_or old.ranks s d).level)
       → ((b : ℕ) → IsOn (patch_of here) b → floor_of old.floors b ≤ to) → ((patch_of here).kind ≡ OpenGate → top_level ≤ to)
       → map (λ r. r.number) new.ranks ≡ map (λ r. r.number) old.ranks → ((d : Rank) → level_of new.ranks (get_or old.ranks s d).number ≡ to)
-      → ((d : Rank) (m : ℕ) → m ≢ (get_or old.ranks s d).number → level_of new.ranks m ≡ level_of old.ranks m) → map (λ r. r.ancestry) new.ranks ≡ map (λ r. r.ancestry) old.ranks
+      → ((d : Rank) (m : ℕ) → m ≢ (get_or old.ranks s d).number → level_of new.ranks m ≡ level_of old.ranks m) → map unleveled new.ranks ≡ map unleveled old.ranks
       → new.floors ≡ old.floors → IsLeveled (patches_of heads) blocks old → IsLeveled (patches_of heads) blocks new
-  lowered_is_leveled blocks to old new row lower change gate numbers raised rest ancestries floors x =
+  lowered_is_leveled blocks to old new row lower change gate numbers raised rest beside floors x =
       let index = index_at heads s lt in
       let number = rank_number heads old.ranks rising x.aligned n s index no_rank in
       let level = rank_level heads old.ranks rising x.aligned n s index no_rank in
@@ -78,6 +78,7 @@ module _ (heads : List Head) (rising : IsRising heads) (s : ℕ) (lt : s < lengt
         aligned = numbers ∙ x.aligned;
         long = rw floors x.long;
         leveled = rw floors (lowered (level_of old.ranks) (level_of new.ranks) (floor_of old.floors) x.leveled to row (omega (arith, less, level)) change gate (ap (level_of new.ranks) (sym number) ∙ raised no_rank) (λ m other. rest no_rank m (λ e. other (e ∙ number))));
-        parents = over_as (patches_of heads) (parent_of old.ranks) (parent_of new.ranks) (kept_as (λ r. r.ancestry) (λ a. a.parent) old.ranks new.ranks numbers ancestries) x.parents;
-        jumps = over_as (patches_of heads) (jump_of old.ranks) (jump_of new.ranks) (kept_as (λ r. r.ancestry) (λ a. a.jump) old.ranks new.ranks numbers ancestries) x.jumps;
+        parents = over_as (patches_of heads) (parent_of old.ranks) (parent_of new.ranks) (kept_as unleveled (λ r. r.ancestry.parent) old.ranks new.ranks numbers beside) x.parents;
+        jumps = over_as (patches_of heads) (jump_of old.ranks) (jump_of new.ranks) (kept_as unleveled (λ r. r.ancestry.jump) old.ranks new.ranks numbers beside) x.jumps;
+        overs = under_as (patches_of heads) (hard_over_of old.ranks) (hard_over_of new.ranks) (kept_as unleveled (λ r. r.hard_over) old.ranks new.ranks numbers beside) x.overs;
       }

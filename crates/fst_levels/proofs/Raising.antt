@@ -4,7 +4,7 @@ use Rattle.std.proofs.lemmas.Bool.{cases_Bool, cases_eq, false≢true}
 use Rattle.std.proofs.lemmas.List.{Elements.{Contains-push, Contains-push_cases, Contains-append_left}}
 use Rattle.fst_heads.specs.{Grading.IsHardNumber, Heads.{IsRising, kind_of, patch_of, patches_of}, Indices.HasIndex, Reaching.IsHardIn, Tests.is_hard_kind, declared.head.Head.Head}
 use Rattle.fst_heads.proofs.Indices.{patch_at, some_element}
-use Rattle.fst_levels.specs.{Leveling.{Leveling, level_of, floor_of}, Lifting.IsLifted, Walks.number_at, declared.levels.Rank.Rank}
+use Rattle.fst_levels.specs.{Leveling.{Leveling, level_of, floor_of, unleveled}, Lifting.IsLifted, Walks.number_at, declared.levels.Rank.Rank}
 use Rattle.fst_levels.proofs.{Above.hard_on_here, NearRow.{hard_here, here_hard}, Ranked.{no_rank, rank_number}, MetNumbers.index_at}
 use Rattle.fst_types.specs.{Patches.Patch, Tests.is_change_at}
 use Rattle.fst_types.proofs.SmallStates.{only_in}
@@ -15,7 +15,7 @@ module _ (heads : List Head) (rising : IsRising heads) (s : ℕ) (lt : s < lengt
     (aligned : map (λ r. r.number) old.ranks ≡ map (λ p. p.number) (patches_of heads))
     (numbers : map (λ r. r.number) new.ranks ≡ map (λ r. r.number) old.ranks) (long : length new.floors ≡ length old.floors) (room : new.room ≡ old.room)
     (raised : (d : Rank) → level_of new.ranks (get_or old.ranks s d).number ≡ to)
-    (ancestries : map (λ r. r.ancestry) new.ranks ≡ map (λ r. r.ancestry) old.ranks)
+    (beside : map unleveled new.ranks ≡ map unleveled old.ranks)
     (rest : (d : Rank) (n : ℕ) → n ≢ (get_or old.ranks s d).number → level_of new.ranks n ≡ level_of old.ranks n)
     (here : Head) (is_here : here ≡ get_or heads s here)
     (floor_raised : (c : ℕ) → IsHardIn (patch_of here) c → floor_of new.floors c ≡ to)
@@ -44,7 +44,7 @@ module _ (heads : List Head) (rising : IsRising heads) (s : ℕ) (lt : s < lengt
     room = room;
     raised = λ m c. ap (level_of new.ranks) (sym (only_in n m c) ∙ sym own) ∙ raised no_rank;
     rest = λ m none. rest no_rank m (λ e. none (subst (Contains (n ∷ [])) (sym (e ∙ own)) (Contains-push [] n)));
-    ancestries = ancestries;
+    beside = beside;
     floors = λ c m k h. floor_raised c (hard_one c m (sym (only_in n m k)) h);
     other_floors = λ c none. floor_rest c (λ h. none n (Contains-push [] n) (one_hard c h));
   }
@@ -69,7 +69,7 @@ lifted_more heads met n to old mid new told A B = record {
     | inr before ↦ elim (Contains-push_cases met n m c) [ inl old ↦ B.rest m before ∙ A.raised m old | inr e ↦ absurd (before (subst (Contains (n ∷ [])) e (Contains-push [] n))) ]
   ];
   rest = λ m none. B.rest m (λ c. none (pushed m c)) ∙ A.rest m (λ c. none (Contains-append_left met (n ∷ []) m c));
-  ancestries = B.ancestries ∙ A.ancestries;
+  beside = B.beside ∙ A.beside;
   floors = λ c m k h. elim (told c) [
     | inl own ↦ B.floors c n (Contains-push [] n) own
     | inr not ↦ elim (Contains-push_cases met n m k) [

@@ -12,8 +12,8 @@ abbrev pub number_of : Rank → ℕ
 number_of r = r.number
 
 -- what stands for a rank where there is none
-pub no_rank : Rank
-no_rank = record { number = 0; level = 0; ancestry = no_ancestry }
+abbrev pub no_rank : Rank
+no_rank = record { number = 0; level = 0; ancestry = no_ancestry; hard_over = 0 }
 
 -- what is kept of a rank
 module _ (kept : Rank → ℕ) where

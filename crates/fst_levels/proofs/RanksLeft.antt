@@ -4,8 +4,8 @@ use Rattle.std.proofs.lemmas.{Bool.{cases_Bool, cases_eq, false≢true}}
 use Rattle.fst_types.specs.{Facts.IsOnDiskWithAll, Patches.{Patch, IsRising}, Tests.{has_number, is_live}}
 use Rattle.fst_types.proofs.{Crash.same_number, Dropping.{filter_in, in_filter}, Finite.{In-from_Contains, Contains-from_In}}
 use Rattle.fst_heads.specs.{Nodes.is_live_in}
-use Rattle.fst_levels.specs.{Leveling.{IsLeveled, Leveling, jump_of, kept_under, level_of, parent_of, floor_of}, declared.levels.Rank.Rank}
-use Rattle.fst_levels.proofs.{LeveledKept.fewer_leveled, Ranked.number_of, AncestorsKept.left_over}
+use Rattle.fst_levels.specs.{Leveling.{IsLeveled, Leveling, hard_over_of, jump_of, kept_under, level_of, parent_of, floor_of}, declared.levels.Rank.Rank}
+use Rattle.fst_levels.proofs.{LeveledKept.fewer_leveled, Ranked.number_of, AncestorsKept.{left_over, left_under}}
 use Rattle.fst_types.proofs.Contents.{has_in}
 use Rattle.fst_types.proofs.Ascends.{filter_same}
 
@@ -116,4 +116,5 @@ module _ (old : List Patch) (rising : IsRising old) where
         (level_fewer is_left levels.ranks) (λ p c. kept_passing is_left (λ r. r.level) levels.ranks p.number (left_told p c)) x.leveled;
     parents = left_over old disk (parent_of levels.ranks) (parent_of (passing is_left levels.ranks)) (λ p c. kept_passing is_left (λ r. r.ancestry.parent) levels.ranks p.number (left_told p c)) x.parents;
     jumps = left_over old disk (jump_of levels.ranks) (jump_of (passing is_left levels.ranks)) (λ p c. kept_passing is_left (λ r. r.ancestry.jump) levels.ranks p.number (left_told p c)) x.jumps;
+    overs = left_under old disk (hard_over_of levels.ranks) (hard_over_of (passing is_left levels.ranks)) (λ p c. kept_passing is_left (λ r. r.hard_over) levels.ranks p.number (left_told p c)) x.overs;
   }

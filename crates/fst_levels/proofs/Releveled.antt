@@ -4,8 +4,8 @@ use Rattle.fst_types.specs.{Gates.IsOpenNumber, Gating.gains, Patches.{Patch, bl
 use Rattle.fst_types.proofs.{GateGains.{direct_cases, gained}}
 use Rattle.fst_heads.specs.{Grading.IsHardNumber, Indices.{PassesAt}}
 use Rattle.fst_heads.proofs.{Covering.was_gained, Graded.{off_from, off_to}}
-use Rattle.fst_levels.specs.Leveling.{AreLeveled, IsLeveled, Leveling, jump_of, level_of, parent_of, floor_of}
-use Rattle.fst_levels.proofs.{Leveled.{live_passes, passed_on}, AncestorsKept.over_gained}
+use Rattle.fst_levels.specs.Leveling.{AreLeveled, IsLeveled, Leveling, hard_over_of, jump_of, level_of, parent_of, floor_of}
+use Rattle.fst_levels.proofs.{Leveled.{live_passes, passed_on}, AncestorsKept.{over_gained, under_gained}}
 use Rattle.fst_heads.specs.declared.test.Test.TheVariants as test
 
 numbers_gained : (g : ℕ) (names : List ℕ) (heads : List Patch) → map (λ p. p.number) (map (gains g names) heads) ≡ map (λ p. p.number) heads
@@ -68,4 +68,5 @@ module _ (old : List Patch) (g : ℕ) (names : List ℕ) (gate : IsOpenNumber ol
     leveled = gained_leveled (level_of levels.ranks) (floor_of levels.floors) x.leveled;
     parents = over_gained old g names (parent_of levels.ranks) x.parents;
     jumps = over_gained old g names (jump_of levels.ranks) x.jumps;
+    overs = under_gained old g names (hard_over_of levels.ranks) x.overs;
   }

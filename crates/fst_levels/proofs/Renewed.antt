@@ -3,12 +3,12 @@ use Rattle.std.proofs.Common.{◌≡◌, ◌≢◌, ◌∙◌, ℕ, List, length
 use Rattle.fst_heads.specs.{Heads.{IsRising, patch_of, patches_of}, Indices.HasIndex, declared.head.Head.Head}
 use Rattle.fst_heads.proofs.Indices.{patch_at}
 use Rattle.fst_types.specs.Patches.{Patch}
-use Rattle.fst_levels.specs.{Ancestors.{GoesUnder, MayStandUnder}, Leveling.{IsLeveled, Leveling, floor_of, jump_of, level_of, parent_of}, declared.levels.{Ancestry.Ancestry, Rank.Rank}}
-use Rattle.fst_levels.proofs.{AncestorsKept.over_renewed, LeveledKept.fewer_leveled, Raised.kept_as, Ranked.{no_rank, rank_number}}
+use Rattle.fst_levels.specs.{Ancestors.{GoesUnder, MayStandUnder}, Leveling.{IsLeveled, Leveling, floor_of, hard_over_of, jump_of, level_of, parent_of}, declared.levels.{Ancestry.Ancestry, Rank.Rank}}
+use Rattle.fst_levels.proofs.{AncestorsKept.{over_renewed, under_as}, LeveledKept.fewer_leveled, Raised.kept_as, Ranked.{no_rank, rank_number}}
 
 module _ (heads : List Head) (rising : IsRising heads) (blocks : ℕ) (old new : Leveling) (x : IsLeveled (patches_of heads) blocks old) (n index : ℕ) (at : HasIndex heads n index) (ancestry : Ancestry)
     (row : List ℕ) (here : Head) (is : row ≡ (get_or heads index here).dependencies.items) (under : GoesUnder (patches_of heads) n row ancestry)
-    (numbers : map (λ r. r.number) new.ranks ≡ map (λ r. r.number) old.ranks) (levels : map (λ r. r.level) new.ranks ≡ map (λ r. r.level) old.ranks)
+    (numbers : map (λ r. r.number) new.ranks ≡ map (λ r. r.number) old.ranks) (levels : map (λ r. r.level) new.ranks ≡ map (λ r. r.level) old.ranks) (overs : map (λ r. r.hard_over) new.ranks ≡ map (λ r. r.hard_over) old.ranks)
     (parent : (d : Rank) → parent_of new.ranks (get_or old.ranks index d).number ≡ ancestry.parent) (jump : (d : Rank) → jump_of new.ranks (get_or old.ranks index d).number ≡ ancestry.jump)
     (rest : (d : Rank) (m : ℕ) → m ≢ (get_or old.ranks index d).number → (parent_of new.ranks m ≡ parent_of old.ranks m) × (jump_of new.ranks m ≡ jump_of old.ranks m)) (floors : new.floors ≡ old.floors) where
   abbrev patches : List Patch
@@ -36,4 +36,5 @@ module _ (heads : List Head) (rising : IsRising heads) (blocks : ℕ) (old new :
         (of_own ancestry.parent (parent_of new.ranks own.number) (ap (parent_of new.ranks) (sym ranked) ∙ parent no_rank) under.parent) x.parents;
     jumps = over_renewed patches own (patch_at heads index here at.0) (jump_of old.ranks) (jump_of new.ranks) (λ m other. (rest no_rank m (λ e. other (e ∙ ranked))).1)
         (of_own ancestry.jump (jump_of new.ranks own.number) (ap (jump_of new.ranks) (sym ranked) ∙ jump no_rank) under.jump) x.jumps;
+    overs = under_as patches (hard_over_of old.ranks) (hard_over_of new.ranks) (kept_as (λ r. r.hard_over) (λ n. n) old.ranks new.ranks numbers overs) x.overs;
   }

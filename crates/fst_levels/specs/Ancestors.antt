@@ -1,5 +1,5 @@
--- Ancestors: for a patch the numbers of patches that it depends on, so that it is told in few steps that a way leads down from it to one far below.
-use Rattle.std.specs.Prelude.{◌≡◌, ◌<◌, ◌⊎◌, ℕ, List, Contains}
+-- Ancestors: for a patch the numbers of patches that it depends on, so that it is told in few steps that a way leads down from it to one far below. And for some the number of one that depends on them.
+use Rattle.std.specs.Prelude.{◌≡◌, ◌≢◌, ◌<◌, ◌⊎◌, ℕ, List, Contains}
 use Rattle.fst_types.specs.{Dependencies.DependsOn, Patches.Patch}
 use Rattle.fst_heads.specs.Grading.{HasUnder}
 use Rattle.fst_levels.specs.declared.levels.Ancestry.{Ancestry}
@@ -18,6 +18,10 @@ pub record MayStandUnder (patches : List Patch) (n : ℕ) (row : List ℕ) (a : 
 pub record GoesUnder (patches : List Patch) (n : ℕ) (row : List ℕ) (ancestry : Ancestry) : Type 0 where
   pub parent : MayStandUnder patches n row ancestry.parent
   pub jump : MayStandUnder patches n row ancestry.jump
+
+-- the patch that is kept over one, if there is one, depends on it
+abbrev pub AreUnder : List Patch → (ℕ → ℕ) → Type 0
+AreUnder patches over = (p : Patch) → Contains patches p → over p.number ≢ 0 → DependsOn patches (over p.number) p.number
 
 -- n is p, or p depends on it, unless n is forgotten
 abbrev pub LeadsTo : List Patch → ℕ → ℕ → Type 0

@@ -3,7 +3,7 @@ use Rattle.std.specs.Prelude.{◌≡◌, ◌≤◌, ◌==◌, ◌/◌, nat_lt, �
 use Rattle.fst_types.specs.{Dependencies.DirectlyOn, Gates.IsOpenNumber, Patches.Patch}
 use Rattle.fst_heads.specs.{Grading.IsHardNumber, Indices.PassesAt}
 use Rattle.fst_heads.specs.declared.test.Test.TheVariants as test
-use Rattle.fst_levels.specs.{Ancestors.AreOver, declared.levels.{Ancestry.Ancestry, Rank.Rank}}
+use Rattle.fst_levels.specs.{Ancestors.{AreOver, AreUnder}, declared.levels.{Ancestry.Ancestry, Rank.Rank}}
 
 -- the greatest level
 abbrev pub top_level : ℕ
@@ -31,6 +31,13 @@ parent_of = kept_under (λ r. r.ancestry.parent)
 abbrev pub jump_of : List Rank → ℕ → ℕ
 jump_of = kept_under (λ r. r.ancestry.jump)
 
+abbrev pub hard_over_of : List Rank → ℕ → ℕ
+hard_over_of = kept_under (λ r. r.hard_over)
+
+-- a rank but for its level
+abbrev pub unleveled : Rank → Rank
+unleveled r = record r { level = 0 }
+
 -- no ancestor
 abbrev pub no_ancestry : Ancestry
 no_ancestry = record { parent = 0; jump = 0; depth = 0 }
@@ -46,16 +53,17 @@ halved level = if nat_lt level top_level then level / 2 else level
 abbrev pub halved_rank : Rank → Rank
 halved_rank r = record r { level = halved r.level }
 
--- the levels and ancestors of the heads in their order, the floors of the blocks, and for how many heads there is room
+-- the levels of the heads in their order, with what is known above and below each, the floors of the blocks, and for how many heads there is room
 pub record Leveling : Type 0 where
   pub ranks : List Rank
   pub floors : List ℕ
   pub room : ℕ
 
--- each head has its level and its ancestors and each block its floor, and they are as they should be
+-- each head has its level, its ancestors and perhaps a hard change over it, and each block its floor, and they are as they should be
 pub record IsLeveled (patches : List Patch) (blocks : ℕ) (levels : Leveling) : Type 0 where
   pub aligned : map (λ r. r.number) levels.ranks ≡ map (λ p. p.number) patches
   pub long : length levels.floors ≡ blocks
   pub leveled : AreLeveled patches (level_of levels.ranks) (floor_of levels.floors)
   pub parents : AreOver patches (parent_of levels.ranks)
   pub jumps : AreOver patches (jump_of levels.ranks)
+  pub overs : AreUnder patches (hard_over_of levels.ranks)

@@ -4,7 +4,7 @@ use Rattle.fst_types.specs.{Dependencies.IsLiveNumber, Patches.Patch, declared.g
 use Rattle.fst_types.specs.declared.grade.Grade.TheVariants as grade
 use Rattle.fst_heads.specs.{Grading.IsHardNumber, Indices.PassesAt}
 use Rattle.fst_heads.specs.declared.test.Test.TheVariants as test
-use Rattle.fst_levels.specs.{Leveling.{Leveling, level_of, floor_of, top_level}, WayBack.StepsUp, declared.levels.Rise.Rise}
+use Rattle.fst_levels.specs.{Leveling.{Leveling, level_of, floor_of, top_level, unleveled}, WayBack.StepsUp, declared.levels.Rise.Rise}
 
 -- exactly what stands over block b, and is not on disk and no higher than `most`, was met: the changes of b, and from what was met on what a step up leads to
 pub record MeetsLow (patches : List Patch) (level : ℕ → ℕ) (b most : ℕ) (met : List ℕ) : Type 0 where
@@ -22,7 +22,7 @@ pub record MayLift (patches : List Patch) (levels : Leveling) (b to : ℕ) (met 
   pub few : to ≤ top_level
   pub meets : MeetsLow patches (level_of levels.ranks) b low met
 
--- those that were met went up to that level, and with each hard change in memory the floor of its block; ancestors stay
+-- those that were met went up to that level, and with each hard change in memory the floor of its block; all else stays
 pub record IsLifted (patches : List Patch) (met : List ℕ) (to : ℕ) (old new : Leveling) : Type 0 where
   pub numbers : map (λ r. r.number) new.ranks ≡ map (λ r. r.number) old.ranks
   pub long : length new.floors ≡ length old.floors
@@ -30,7 +30,7 @@ pub record IsLifted (patches : List Patch) (met : List ℕ) (to : ℕ) (old new 
   pub raised : (n : ℕ) → Contains met n → level_of new.ranks n ≡ to
   pub rest : (n : ℕ) → (Contains met n → ⊥) → level_of new.ranks n ≡ level_of old.ranks n
   pub floors : (c n : ℕ) → Contains met n → IsHardNumber patches c n → floor_of new.floors c ≡ to
-  pub ancestries : map (λ r. r.ancestry) new.ranks ≡ map (λ r. r.ancestry) old.ranks
+  pub beside : map unleveled new.ranks ≡ map unleveled old.ranks
   pub other_floors : (c : ℕ) → ((n : ℕ) → Contains met n → IsHardNumber patches c n → ⊥) → floor_of new.floors c ≡ floor_of old.floors c
 
 -- how a new change of block b with that row and grade rises: over its row and its block's floor, and no higher than the floor where it is hard; where that can't be, it lifts what was met and the floor

@@ -27,6 +27,10 @@ pub record IsUnderHard (patches : List Patch) (b n : ℕ) : Type 0 where
   pub hard : IsHardNumber patches b top
   pub over : (top ≡ n) ⊎ DependsOn patches top n
 
+-- n is the number of a hard change of b in memory, or such a one is kept over it
+abbrev pub IsKeptUnder : List Patch → (ℕ → ℕ) → ℕ → ℕ → Type 0
+IsKeptUnder patches over b n = IsHardNumber patches b n ⊎ ((over n ≢ 0) × IsHardNumber patches b (over n))
+
 -- n is not on disk, and is a change of b that is not on disk or depends on one
 pub record IsLiveOver (patches : List Patch) (b n : ℕ) : Type 0 where
   pub live : IsLiveNumber patches n

@@ -1,7 +1,7 @@
 //! Levels: what tells without a walk that a way leads nowhere. Each head has a level and each block a floor, so that no way
 //! down rises: what a patch depends on is no higher than it is, a change is no lower than the floor of its block, and a hard
 //! change in memory is no higher. So what lies below a floor can come to wait for nothing of that block. Beside its level the
-//! ancestry of each head is kept (`ancestors`).
+//! ancestry of each head is kept (`ancestors`), and of a change a hard one over it (`under_hard`).
 
 ghost use Rattle.std.specs.Prelude.{vec_capacity, count_by, ◌≡◌, ◌≢◌, ◌≤◌, ◌<◌, ◌+◌, ◌++◌, ◌∷◌, [], ℕ, List, false, IsTrue, length, map, filter, Contains, AllPairs, IfOk, IfSome, IfNone, OnOk, slice_index_or};
 ghost use Rattle.fst_types.specs.Tests.{is_live};
@@ -15,6 +15,8 @@ ghost use Rattle.fst_types.specs.Facts.{IsOnDiskWithAll};
 ghost use Rattle.fst_levels.specs.Leveling.{IsLeveled, floor_of, jump_of, level_of, no_ancestry, parent_of, top_level};
 ghost use Rattle.fst_levels.specs.Lifting.{IsLifted, MayLift};
 ghost use Rattle.fst_levels.specs.Walks.{number_at, numbers_met};
+
+mod beside;
 
 use crate::directory::Directory;
 use crate::ranks::{halve_floors, halve_ranks, keep_live, raise, raise_floor, rank_index};
@@ -40,12 +42,13 @@ pub struct Ancestry {
     pub depth: u32,
 }
 
-/// A head's number, its level and its ancestry.
+/// A head's number, its level and its ancestry, and for a change the number of a hard one of its block over it, 0 for none.
 #[derive(Clone, Copy)]
 pub struct Rank {
     pub number: u32,
     pub level: u32,
     pub ancestry: Ancestry,
+    pub hard_over: u32,
 }
 
 /// What a new change does to the levels.
@@ -62,7 +65,7 @@ pub struct Rise {
 /// The levels and ancestries of the heads, in their order, and the floors of the blocks. For each block is kept what searches
 /// for a way back to it have looked at since its floor went up last, so that it goes up once that is worth it (`lift`), and
 /// of all how high up one stands that is not at the top (`ease`). Where a head's rank stands is told by a directory of their
-/// numbers. It takes 20 bytes for each head and 12 for each block, and the directory.
+/// numbers. It takes 24 bytes for each head and 12 for each block, and the directory.
 #[derive(Drop)]
 pub struct Levels {
     ranks: Vec<Rank>,
@@ -213,6 +216,7 @@ impl Levels {
                 number,
                 level: 0,
                 ancestry: no_ancestry(),
+                hard_over: 0,
             },
         }
     }
@@ -228,21 +232,6 @@ impl Levels {
             most = self.of(heads, *number).max(most);
         }
         most
-    }
-
-    /// The head at the index has this ancestry.
-    pub(crate) fn put_ancestry(&mut self, index: usize, ancestry: Ancestry)
-        requires index { index < length self.old.ranks }
-        requires rising { AllPairs (λ r q. r.number < q.number) self.old.ranks }
-        ensures numbers { map (λ r. r.number) self.new.ranks ≡ map (λ r. r.number) self.old.ranks }
-        ensures levels { map (λ r. r.level) self.new.ranks ≡ map (λ r. r.level) self.old.ranks }
-        ensures parent { (d : Rank) → parent_of self.new.ranks (slice_index_or self.old.ranks index d).number ≡ ancestry.parent }
-        ensures jump { (d : Rank) → jump_of self.new.ranks (slice_index_or self.old.ranks index d).number ≡ ancestry.jump }
-        ensures rest { (d : Rank) (n : ℕ) → n ≢ (slice_index_or self.old.ranks index d).number → (parent_of self.new.ranks n ≡ parent_of self.old.ranks n) × (jump_of self.new.ranks n ≡ jump_of self.old.ranks n) }
-        ensures floors { self.new.floors ≡ self.old.floors }
-        ensures room { self.new.room ≡ self.old.room }
-    {
-        self.ranks[index].ancestry = ancestry;
     }
 
     /// Drops the patches on disk, so many not being there, with their levels. Those before the oldest of them stay where they

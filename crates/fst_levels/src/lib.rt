@@ -32,5 +32,5 @@ mod ranks;
 pub mod shortcuts;
 pub mod sight;
 pub mod sink;
-mod under_hard;
+pub mod under_hard;
 pub mod walk;

@@ -7,7 +7,7 @@ ghost use Rattle.fst_heads.specs.Heads.{IsRising, patch_of, patches_of};
 ghost use Rattle.fst_heads.specs.Reaching.{IsHardIn};
 ghost use Rattle.fst_heads.specs.Nodes.{is_live_in};
 ghost use Rattle.fst_heads.specs.Spans.{SpansDisk};
-ghost use Rattle.fst_levels.specs.Leveling.{floor_of, halved, halved_rank, level_of};
+ghost use Rattle.fst_levels.specs.Leveling.{floor_of, halved, halved_rank, level_of, unleveled};
 
 use crate::directory::Directory;
 use crate::levels::{Rank, TOP};
@@ -22,7 +22,7 @@ pub fn raise(ranks: &mut Vec<Rank>, index: usize, to: u32)
     ensures numbers { map (λ r. r.number) ranks.new.items ≡ map (λ r. r.number) ranks.old.items }
     ensures raised { (d : Rank) → level_of ranks.new.items (slice_index_or ranks.old.items index d).number ≡ to }
     ensures rest { (d : Rank) (n : ℕ) → n ≢ (slice_index_or ranks.old.items index d).number → level_of ranks.new.items n ≡ level_of ranks.old.items n }
-    ensures ancestries { map (λ r. r.ancestry) ranks.new.items ≡ map (λ r. r.ancestry) ranks.old.items }
+    ensures beside { map unleveled ranks.new.items ≡ map unleveled ranks.old.items }
     ensures capacity { vec_capacity ranks.new ≡ vec_capacity ranks.old }
 {
     ranks[index].level = to;

@@ -19,7 +19,7 @@ ghost use Rattle.fst_heads.specs.Nodes.{nodes_of, pending_in, AreSettled};
 ghost use Rattle.fst_heads.specs.Pendings.{IsOf};
 
 use crate::sight::Sight;
-use crate::under_hard::climb;
+use crate::under_hard::is_known_under;
 use fst_heads::choice::is_hard;
 use fst_heads::head::{Head, Kind};
 use fst_heads::index::index_of;
@@ -198,24 +198,18 @@ pub fn is_clean(sight: &Sight<'_>, block: u32) -> bool
     list.is_empty()
 }
 
-// How many steps up from a row are taken to hard changes of the block.
-const STEPS: usize = 512;
-
-/// Whether each of the row is lower than the floor of the block, or is a hard change of the block in memory, or such a one is
-/// found over it. A change of the block with that row is hard but for open gates.
+/// Whether each of the row is lower than the floor of the block, or is a hard change of the block in memory, or is known to be
+/// below one. A change of the block with that row is hard but for open gates.
 pub fn stays_below(sight: &Sight<'_>, block: u32, row: &[u32]) -> bool
     requires sees { Sees sight.now }
     requires block { block < length sight.now.lists.now }
     ensures { IsTrue result → LeadsNowhere (patches_of sight.now.heads.now) block row.now }
 {
     let floor = sight.levels.floor(block);
-    let mut left = STEPS;
     for number in row {
-        if sight.levels.of(sight.heads, *number) >= floor {
-            let Some(rest) = climb(sight, block, *number, left) else {
-                return false;
-            };
-            left = rest;
+        let is_low = sight.levels.of(sight.heads, *number) < floor;
+        if !is_low && !is_known_under(sight, block, *number) {
+            return false;
         }
     }
     true

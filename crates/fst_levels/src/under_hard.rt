@@ -1,54 +1,137 @@
-//! A hard change of a block in memory that comes after a patch, looked for by climbing through changes of the block. What lies
-//! below a hard change leads nowhere, and that stays so for as long as it is in memory. So a new change over soft ones of its
-//! own block, which were made behind gates that are sealed by now, need not go through all of them.
+//! A hard change of a block in memory over a patch. What lies below a hard change leads nowhere, and that stays so for as long as
+//! it is in memory. So a new change over soft ones of its own block, which were made behind gates that are sealed by now, need
+//! not go through all of them. Once a hard change is made, a walk goes down from it through changes of its block, and keeps it as
+//! the one over each of them. It ends where one in memory is kept already, so that all such walks together are about as long as
+//! the block's list, however many hard changes are made over it. No other call has to look after what is kept: as long as a patch
+//! is not on disk, neither is what depends on it; and hard changes of a block go into one write, with what lies below them.
 
-ghost use Rattle.std.specs.Prelude.{ℕ, IfSome};
-ghost use Rattle.fst_types.specs.Dependencies.{DirectlyOn};
-ghost use Rattle.fst_heads.specs.Heads.{patches_of};
+ghost use Rattle.std.specs.Prelude.{◌≡◌, ◌<◌, ◌↔◌, ◌⊎◌, ℕ, IsTrue, Contains, length, map};
+ghost use Rattle.fst_types.specs.Dependencies.{DependsOn};
+ghost use Rattle.fst_heads.specs.Heads.{IsRising, patches_of};
 ghost use Rattle.fst_heads.specs.Indices.{HasIndex};
+ghost use Rattle.fst_levels.specs.Leveling.{IsLeveled, hard_over_of};
 ghost use Rattle.fst_levels.specs.Sights.{Sees};
-ghost use Rattle.fst_levels.specs.WayBack.{IsUnderHard};
+ghost use Rattle.fst_levels.specs.Walks.{numbers_met};
+ghost use Rattle.fst_levels.specs.WayBack.{IsKeptUnder, IsUnderHard};
 
-use crate::shortcuts::{is_hard_in, newest_few};
+use crate::levels::Levels;
+use crate::shortcuts::is_hard_in;
 use crate::sight::Sight;
-use fst_heads::places::is_change_at;
-use fst_types::Place;
+use crate::walk::Walk;
+use fst_heads::head::{Head, Kind};
+use fst_heads::test::{Test, passes};
+use fst_types::Grade;
 
-// How many of the newest that depend on a patch are looked at.
-const NEWEST: usize = 8;
-
-// The index of the newest change of the block in memory that directly depends on the patch at the index, of so many.
-fn next_over(sight: &Sight<'_>, block: u32, index: usize) -> Option<usize>
-    requires sees { Sees sight.now }
-    requires index { (n : ℕ) × HasIndex sight.now.heads.now n index }
-    ensures { IfSome result (λ next. (q : ℕ) × HasIndex sight.now.heads.now q next × ((n : ℕ) → HasIndex sight.now.heads.now n index → DirectlyOn (patches_of sight.now.heads.now) q n)) }
+/// Whether the patch at the index is a hard change of the block in memory, or such a one is kept over it.
+pub fn is_under_hard(levels: &Levels, heads: &[Head], block: u32, index: usize) -> bool
+    requires rising { IsRising heads.now }
+    requires aligned { map (λ r. r.number) levels.now.ranks ≡ map (λ p. p.number) (patches_of heads.now) }
+    requires inside { index < length heads.now }
+    ensures { (n : ℕ) → HasIndex heads.now n index → IsTrue result ↔ IsKeptUnder (patches_of heads.now) (hard_over_of levels.now.ranks) block n }
 {
-    let newest = newest_few(sight.heads[index].dependants.as_slice(), NEWEST);
-    for number in newest.iter().rev() {
-        if let Some(next) = sight.levels.find(sight.heads, *number) {
-            if is_change_at(&sight.heads[next], Place::Memory, block) {
-                return Some(next);
-            }
-        }
+    if is_hard_in(&heads[index], block) {
+        return true;
     }
-    None
+    let over = levels.hard_over(index);
+    if over == 0 {
+        return false;
+    }
+    match levels.find(heads, over) {
+        Some(at) => is_hard_in(&heads[at], block),
+        None => false,
+    }
 }
 
-/// How many of so many steps are left once they lead up from the patch with the number to a hard change of the block in
-/// memory, through changes of the block. None where they do not.
-pub fn climb(sight: &Sight<'_>, block: u32, number: u32, steps: usize) -> Option<usize>
+/// Whether the patch with the number is a hard change of the block in memory, or known to be below one.
+pub fn is_known_under(sight: &Sight<'_>, block: u32, number: u32) -> bool
     requires { Sees sight.now }
-    ensures { IfSome result (λ left. IsUnderHard (patches_of sight.now.heads.now) block number) }
+    ensures { IsTrue result → IsUnderHard (patches_of sight.now.heads.now) block number }
 {
-    let mut index = sight.levels.find(sight.heads, number)?;
-    if !is_change_at(&sight.heads[index], Place::Memory, block) {
-        return None;
+    match sight.levels.find(sight.heads, number) {
+        Some(index) => is_under_hard(sight.levels, sight.heads, block, index),
+        None => false,
     }
-    for taken in 0..steps {
-        if is_hard_in(&sight.heads[index], block) {
-            return Some(steps - taken);
-        }
-        index = next_over(sight, block, index)?;
+}
+
+// Keeps the hard change `over` of the block as the one over the patch with the number, which is below it: if that is a change of
+// the block that is not on disk, and neither is hard and in memory nor has such a one kept over it. It is met then.
+fn keep_over(
+    levels: &mut Levels,
+    heads: &[Head],
+    walk: &mut Walk,
+    block: u32,
+    over: u32,
+    number: u32,
+)
+    requires rising { IsRising heads.now }
+    requires leveled { IsLeveled (patches_of heads.now) (length levels.old.floors) levels.old }
+    requires long { length walk.old.marks ≡ length heads.now }
+    requires below { DependsOn (patches_of heads.now) over number }
+    requires met { (n : ℕ) → Contains (numbers_met heads.now walk.old) n → (over ≡ n) ⊎ DependsOn (patches_of heads.now) over n }
+    ensures leveled { IsLeveled (patches_of heads.now) (length levels.old.floors) levels.new }
+    ensures levels { (length levels.new.ranks ≡ length levels.old.ranks) × (levels.new.room ≡ levels.old.room) }
+    ensures long { length walk.new.marks ≡ length heads.now }
+    ensures room { walk.new.room ≡ walk.old.room }
+    ensures met { (n : ℕ) → Contains (numbers_met heads.now walk.new) n → (over ≡ n) ⊎ DependsOn (patches_of heads.now) over n }
+{
+    let Some(index) = levels.find(heads, number) else {
+        return;
+    };
+    if !passes(Test::LiveOn(block), &heads[index]) || is_under_hard(levels, heads, block, index) {
+        return;
     }
-    None
+    levels.put_hard_over(heads, index, over);
+    walk.meet(index);
+}
+
+// Keeps it so over what the patch that was met there in turn directly depends on.
+fn keep_below(
+    levels: &mut Levels,
+    heads: &[Head],
+    walk: &mut Walk,
+    block: u32,
+    over: u32,
+    at: usize,
+)
+    requires rising { IsRising heads.now }
+    requires leveled { IsLeveled (patches_of heads.now) (length levels.old.floors) levels.old }
+    requires long { length walk.old.marks ≡ length heads.now }
+    requires at { at < length walk.old.met }
+    requires met { (n : ℕ) → Contains (numbers_met heads.now walk.old) n → (over ≡ n) ⊎ DependsOn (patches_of heads.now) over n }
+    ensures leveled { IsLeveled (patches_of heads.now) (length levels.old.floors) levels.new }
+    ensures levels { (length levels.new.ranks ≡ length levels.old.ranks) × (levels.new.room ≡ levels.old.room) }
+    ensures long { length walk.new.marks ≡ length heads.now }
+    ensures room { walk.new.room ≡ walk.old.room }
+    ensures met { (n : ℕ) → Contains (numbers_met heads.now walk.new) n → (over ≡ n) ⊎ DependsOn (patches_of heads.now) over n }
+{
+    let head = &heads[walk.index_at(at)];
+    for number in head.dependencies.as_slice() {
+        keep_over(levels, heads, walk, block, over, *number);
+    }
+}
+
+/// Keeps the change with the number, if it is hard, as the one over what lies below it, as far as changes of its block lead down
+/// to that. What was met before does not matter.
+pub fn keep_under(levels: &mut Levels, heads: &[Head], walk: &mut Walk, over: u32)
+    requires rising { IsRising heads.now }
+    requires leveled { IsLeveled (patches_of heads.now) (length levels.old.floors) levels.old }
+    requires long { length walk.old.marks ≡ length heads.now }
+    ensures leveled { IsLeveled (patches_of heads.now) (length levels.old.floors) levels.new }
+    ensures levels { (length levels.new.ranks ≡ length levels.old.ranks) × (levels.new.room ≡ levels.old.room) }
+    ensures long { length walk.new.marks ≡ length heads.now }
+    ensures room { walk.new.room ≡ walk.old.room }
+{
+    walk.clear();
+    let Some(index) = levels.find(heads, over) else {
+        return;
+    };
+    let Kind::Change(Grade::Hard, block, _) = heads[index].kind else {
+        return;
+    };
+    walk.meet(index);
+    let mut at = 0;
+    while at < walk.len() {
+        keep_below(levels, heads, walk, u32::from(block), over, at);
+        at += 1;
+    }
 }

@@ -9,8 +9,8 @@ use Rattle.fst_heads.specs.{Grading.{HasUnder, LeadsNowhere, IsHardNumber}, Head
 use Rattle.fst_heads.specs.{Reaching.{ShowsBlocks}, Tests.passes, declared.head.Head.Head}
 use Rattle.fst_heads.proofs.{Listing.rising_patches}
 use Rattle.fst_walks.specs.{BothEnds.{AreApart, ComesTo, EndApart, IsFirstAway, IsLowChange, LeadTogether, StepsAway, StepsHigh, StepsLow, StepsTo}, Descending.{IsLedFrom, Visits}}
-use Rattle.fst_levels.specs.{Leveling.AreLeveled, Needing.AreNeeded, WayBack.{LeadsBack, StepsUp}}
-use Rattle.fst_levels.proofs.{NoWayBack.{Leads, leads_on, goes_up, back_leads, none_leads, off_live}, ComesBack.{live_number, off_not_on}, Holding.live_up, NearRow.rests_may, Trails.none_in}
+use Rattle.fst_levels.specs.{Leveling.AreLeveled, Ancestors.AreUnder, Needing.AreNeeded, WayBack.{IsKeptUnder, IsUnderHard, LeadsBack, StepsUp}}
+use Rattle.fst_levels.proofs.{KeptOver.kept_is_under, NoWayBack.{Leads, leads_on, goes_up, back_leads, none_leads, off_live}, ComesBack.{live_number, off_not_on}, Holding.live_up, NearRow.rests_may, Trails.none_in}
 use Rattle.fst_walks.proofs.{BothEnds.{away_depends, led_leads, leads_led, backs_up, ups_back}, Needed.{StepsDown, StepsWhole, steps_whole, whole_met}}
 use Rattle.fst_heads.specs.declared.test.Test.TheVariants as test
 
@@ -22,7 +22,7 @@ passes_or patches rising t p n head numbered = elim (cases_Bool (passes t p)) [
 ]
 
 -- the way down from what depends on a live change of another block, from which a way leads back to b, leads to a first one
-module _ (heads : List Head) (rising : AreRising heads) (disk : IsOnDiskWithAll (patches_of heads)) (hard : HardNeverHold (patches_of heads)) (b : ℕ) where
+module _ (heads : List Head) (rising : AreRising heads) (disk : IsOnDiskWithAll (patches_of heads)) (hard : HardNeverHold (patches_of heads)) (over : ℕ → ℕ) (kept : AreUnder (patches_of heads) over) (b : ℕ) where
   abbrev patches : List Patch
   patches = patches_of heads
 
@@ -44,35 +44,42 @@ module _ (heads : List Head) (rising : AreRising heads) (disk : IsOnDiskWithAll 
             | inr low ↦ (low.0, join d (subst (λ k. DependsOn patches k low.0) (sym e) low.1), low.2)
           ]
 
+  -- no way leads back from what is at or below a hard change of b in memory
+  under_returns : (n : ℕ) → IsUnderHard patches b n → ReturnsFrom n → ⊥
+  under_returns n u back =
+      let may = rests_may heads rising b (u.top ∷ []) hard (λ k c. subst (IsHardNumber patches b) (only_in u.top k c) u.hard) in
+      let nowhere : LeadsNowhere patches b (u.top ∷ []) = record { straight = may.straight; open_ended = may.open_ended } in
+      elim u.over [ inl e ↦ subst ReturnsFrom (sym e) back nowhere | inr path ↦ returns_up u.top n path back nowhere ]
+
   -- a first one on the way from m to n, above n
   record HasFirst (m n : ℕ) : Type 0 where
     found : ℕ
     away : PassesAt (test.LiveOff b) patches found
-    path : Leads (StepsAway patches b) m found
-    over : DependsOn patches found n
+    path : Leads (StepsAway patches over b) m found
+    above : DependsOn patches found n
 
-  goes_down : (m n : ℕ) → DependsOn patches m n → IsLiveNumber patches n → ReturnsFrom n → HasFirst m n ⊎ Closure (StepsAway patches b) m n
+  goes_down : (m n : ℕ) → DependsOn patches m n → IsLiveNumber patches n → ReturnsFrom n → HasFirst m n ⊎ Closure (StepsAway patches over b) m n
   goes_down m n (one d) live back = elim (passes_or patches (rising_patches heads rising) (test.LiveOff b) d.patch m d.head d.numbered) [
-    | inl away ↦ inl (record { found = m; away = away; path = inl refl; over = one d })
+    | inl away ↦ inl (record { found = m; away = away; path = inl refl; above = one d })
     | inr own ↦
-        let soft : IsHardNumber patches b m → ⊥ = λ h.
-        let may = rests_may heads rising b (m ∷ []) hard (λ k c. subst (IsHardNumber patches b) (only_in m k c) h) in
-        returns_up m n (one d) back (record { straight = may.straight; open_ended = may.open_ended }) in
-        inr (one (record { own = own; soft = soft }, d, live))
+        let free : IsKeptUnder patches over b m → ⊥ = λ k.
+        let under = kept_is_under patches over kept b d.patch d.head (subst (IsKeptUnder patches over b) (sym d.numbered) k) in
+        under_returns m (subst (IsUnderHard patches b) d.numbered under) (returns_up m n (one d) back) in
+        inr (one (record { own = own; open_ended = free }, d, live))
   ]
   goes_down m n (join {q = k} c d) live back =
       let mid = live_up patches disk k n d live in
       elim (goes_down m k c mid (returns_up k n d back)) [
-        | inl f ↦ inl (record { found = f.found; away = f.away; path = f.path; over = join f.over d })
+        | inl f ↦ inl (record { found = f.found; away = f.away; path = f.path; above = join f.above d })
         | inr path ↦ elim (goes_down k n d live back) [
-          | inl f ↦ inl (record { found = f.found; away = f.away; path = leads_on (StepsAway patches b) m k f.found (inr path) f.path; over = f.over })
+          | inl f ↦ inl (record { found = f.found; away = f.away; path = leads_on (StepsAway patches over b) m k f.found (inr path) f.path; above = f.above })
           | inr more ↦ inr (join path more)
         ]
       ]
 
   module _ (crossed : List Bool) (shown : ShowsBlocks crossed (λ c. c ≡ b)) (row : List ℕ) where
     -- where a way leads back from the row, steps lead up from its end to a first one
-    pub first_back : (end : ℕ) → LeadsBack patches b row end → (n : ℕ) × IsFirstAway patches b row n × Closure (StepsUp patches crossed) end n
+    pub first_back : (end : ℕ) → LeadsBack patches b row end → (n : ℕ) × IsFirstAway patches over b row n × Closure (StepsUp patches crossed) end n
     first_back end l =
         let up = rising_patches heads rising in
         let last = l.away in
@@ -86,21 +93,21 @@ module _ (heads : List Head) (rising : AreRising heads) (disk : IsOnDiskWithAll 
               let down = subst (DependsOn patches u.0) low.2 low.1 in
               let top = live_up patches disk u.0 last down live in
               elim (goes_down u.0 last down live back) [
-                | inl f ↦ (f.found, record { away = f.away; top = u.0; named = u.1; live = top; path = f.path }, join path (backs_up patches b crossed shown last f.found (goes_up patches disk b f.found last f.over live)))
+                | inl f ↦ (f.found, record { away = f.away; top = u.0; named = u.1; live = top; path = f.path }, join path (backs_up patches b crossed shown last f.found (goes_up patches disk b f.found last f.above live)))
                 | inr further ↦ (last, record { away = l.off; top = u.0; named = u.1; live = top; path = inr further }, path)
               ]
         ]
 
 -- a first one is at or below the row
-first_under : (patches : List Patch) (b : ℕ) (row : List ℕ) (n : ℕ) → IsFirstAway patches b row n → HasUnder patches row (λ m. m ≡ n)
-first_under patches b row n f = (f.top, f.named, elim f.path [ inl e ↦ inl e | inr path ↦ inr (n, away_depends patches b f.top n path, refl) ])
+first_under : (patches : List Patch) (over : ℕ → ℕ) (b : ℕ) (row : List ℕ) (n : ℕ) → IsFirstAway patches over b row n → HasUnder patches row (λ m. m ≡ n)
+first_under patches over b row n f = (f.top, f.named, elim f.path [ inl e ↦ inl e | inr path ↦ inr (n, away_depends patches over b f.top n path, refl) ])
 
 -- of what the way down from the row leads to, the changes of other blocks are first ones
-pub first_only : (patches : List Patch) (b : ℕ) (row start met kept : List ℕ) → Visits (λ n. Contains row n × IsLiveNumber patches n) [] start → ((n : ℕ) → Contains met n → IsLedFrom (StepsAway patches b) start n)
-    → ((n : ℕ) → Contains kept n ↔ (Contains met n × PassesAt (test.LiveOff b) patches n)) → (n : ℕ) → Contains kept n → IsFirstAway patches b row n
-first_only patches b row start met kept starts led keeps n c =
+pub first_only : (patches : List Patch) (over : ℕ → ℕ) (b : ℕ) (row start met kept : List ℕ) → Visits (λ n. Contains row n × IsLiveNumber patches n) [] start → ((n : ℕ) → Contains met n → IsLedFrom (StepsAway patches over b) start n)
+    → ((n : ℕ) → Contains kept n ↔ (Contains met n × PassesAt (test.LiveOff b) patches n)) → (n : ℕ) → Contains kept n → IsFirstAway patches over b row n
+first_only patches over b row start met kept starts led keeps n c =
     let k = (keeps n).0 c in
-    let s = led_leads (StepsAway patches b) start n (led n k.0) in
+    let s = led_leads (StepsAway patches over b) start n (led n k.0) in
     let top = started s.0 s.1 in
     record { away = k.1; top = s.0; named = top.0; live = top.1; path = s.2 }
   where
@@ -108,10 +115,10 @@ first_only patches b row start met kept starts led keeps n c =
     started m c = elim (starts.only m c) [ inl none ↦ absurd (none_in m none) | inr k ↦ k ]
 
 -- and they are all of them where all that it leads to was met
-pub first_all : (patches : List Patch) (b : ℕ) (row start met kept : List ℕ) → Visits (λ n. Contains row n × IsLiveNumber patches n) [] start → ((n : ℕ) → IsLedFrom (StepsAway patches b) start n → Contains met n)
-    → ((n : ℕ) → Contains kept n ↔ (Contains met n × PassesAt (test.LiveOff b) patches n)) → (n : ℕ) → IsFirstAway patches b row n → Contains kept n
-first_all patches b row start met kept starts led keeps n f =
-    (keeps n).1 (led n (leads_led (StepsAway patches b) start f.top n (starts.each f.top (f.named, f.live)) f.path), f.away)
+pub first_all : (patches : List Patch) (over : ℕ → ℕ) (b : ℕ) (row start met kept : List ℕ) → Visits (λ n. Contains row n × IsLiveNumber patches n) [] start → ((n : ℕ) → IsLedFrom (StepsAway patches over b) start n → Contains met n)
+    → ((n : ℕ) → Contains kept n ↔ (Contains met n × PassesAt (test.LiveOff b) patches n)) → (n : ℕ) → IsFirstAway patches over b row n → Contains kept n
+first_all patches over b row start met kept starts led keeps n f =
+    (keeps n).1 (led n (leads_led (StepsAway patches over b) start f.top n (starts.each f.top (f.named, f.live)) f.path), f.away)
 
 -- no way up falls
 module _ (patches : List Patch) (level floor : ℕ → ℕ) (leveled : AreLeveled patches level floor) (crossed : List Bool) where
@@ -225,10 +232,10 @@ module _ (patches : List Patch) (b : ℕ) (up down : List Bool) (shows_up : Show
     leads_downs p q (inr path) live = inr (downs p q path live).0
 
 -- with no first one no way leads back
-pub none_first : (heads : List Head) (rising : AreRising heads) (disk : IsOnDiskWithAll (patches_of heads)) (hard : HardNeverHold (patches_of heads)) (b : ℕ) (crossed : List Bool) (shown : ShowsBlocks crossed (λ c. c ≡ b)) (row : List ℕ)
-    → ((n : ℕ) → IsFirstAway (patches_of heads) b row n → ⊥) → LeadsNowhere (patches_of heads) b row
-none_first heads rising disk hard b crossed shown row none =
-    none_leads (patches_of heads) (rising_patches heads rising) disk b row (λ end l. let f = first_back heads rising disk hard b crossed shown row end l in none f.0 f.1)
+pub none_first : (heads : List Head) (rising : AreRising heads) (disk : IsOnDiskWithAll (patches_of heads)) (hard : HardNeverHold (patches_of heads)) (over : ℕ → ℕ) (kept : AreUnder (patches_of heads) over) (b : ℕ) (crossed : List Bool) (shown : ShowsBlocks crossed (λ c. c ≡ b)) (row : List ℕ)
+    → ((n : ℕ) → IsFirstAway (patches_of heads) over b row n → ⊥) → LeadsNowhere (patches_of heads) b row
+none_first heads rising disk hard over kept b crossed shown row none =
+    none_leads (patches_of heads) (rising_patches heads rising) disk b row (λ end l. let f = first_back heads rising disk hard over kept b crossed shown row end l in none f.0 f.1)
 
 -- exactly those with P were visited where nothing was before
 pub visited_all : (P : ℕ → Type 0) (queue : List ℕ) → Visits P [] queue → (n : ℕ) → Contains queue n ↔ P n
@@ -237,7 +244,7 @@ visited_all P queue v n = (λ c. elim (v.only n c) [ inl none ↦ absurd (none_i
 -- a walk down starts from first changes of other blocks at or below a row, and never crosses b
 module _ (heads : List Head) (rising : AreRising heads) (disk : IsOnDiskWithAll (patches_of heads)) (hard : HardNeverHold (patches_of heads)) (flights : FlightsStandAlone (patches_of heads))
     (level floor : ℕ → ℕ) (leveled : AreLeveled (patches_of heads) level floor) (needs : ℕ → List ℕ) (needed : AreNeeded (patches_of heads) needs)
-    (b least : ℕ) (low : least ≤ floor b) (row : List ℕ) (up down : List Bool) (shows_up : ShowsBlocks up (λ c. c ≡ b)) (shows_down : ShowsBlocks down (λ c. c ≡ b)) (tops : List ℕ) (first : (n : ℕ) → Contains tops n → IsFirstAway (patches_of heads) b row n) where
+    (over : ℕ → ℕ) (kept : AreUnder (patches_of heads) over) (b least : ℕ) (low : least ≤ floor b) (row : List ℕ) (up down : List Bool) (shows_up : ShowsBlocks up (λ c. c ≡ b)) (shows_down : ShowsBlocks down (λ c. c ≡ b)) (tops : List ℕ) (first : (n : ℕ) → Contains tops n → IsFirstAway (patches_of heads) over b row n) where
   abbrev now : List Patch
   now = patches_of heads
 
@@ -260,7 +267,7 @@ module _ (heads : List Head) (rising : AreRising heads) (disk : IsOnDiskWithAll 
         away = top;
         change = change;
         off = away.away;
-        under = first_under now b row top away;
+        under = first_under now over b row top away;
         path = elim (leads_on (StepsUp now up) end n top above (under_up top n c below)) [ inl e ↦ absurd (off_not_on now in_order b top away.away (subst (PassesAt (test.LiveOn b) now) e change)) | inr path ↦ ups_back now b up shows_up end top path ];
       }
 
@@ -271,25 +278,25 @@ module _ (heads : List Head) (rising : AreRising heads) (disk : IsOnDiskWithAll 
       back_from at a.0 at a.1 met.change (wholly a.0 at a.2) (inl refl)
 
   -- where it starts from all of them and comes to none, none does
-  pub comes_hard : ((n : ℕ) → IsFirstAway now b row n → Contains tops n) → ((at : ℕ) → ComesTo now level least needs down b tops at → ⊥) → LeadsNowhere now b row
+  pub comes_hard : ((n : ℕ) → IsFirstAway now over b row n → Contains tops n) → ((at : ℕ) → ComesTo now level least needs down b tops at → ⊥) → LeadsNowhere now b row
   comes_hard each none = none_leads now in_order disk b row (λ end l.
-      let f = first_back heads rising disk hard b up shows_up row end l in
+      let f = first_back heads rising disk hard over kept b up shows_up row end l in
       let back = leads_downs now b up down shows_up shows_down in_order end f.0 (inr f.2) (live_number now in_order b b end l.change) in
       let y = whole_met now in_order flights needs needed b down shows_down tops f.0 end (each f.0 f.1) back l.change in
       let over = leveled.change b y.0 y.2 in
       none y.0 (record { under = high_led now level floor leveled needs needed down least tops y.0 y.1 (omega (arith, low, over)); change = y.2 }))
 
 -- the walks start from the low live changes of b and from the first changes of other blocks at or below a row, which are low, and never cross b
-pub record AreEnds (patches : List Patch) (level : ℕ → ℕ) (most b : ℕ) (row : List ℕ) (up down : List Bool) (bottoms tops : List ℕ) : Type 0 where
+pub record AreEnds (patches : List Patch) (level over : ℕ → ℕ) (most b : ℕ) (row : List ℕ) (up down : List Bool) (bottoms tops : List ℕ) : Type 0 where
   pub low : (n : ℕ) → Contains tops n → level n ≤ most
   pub shows_up : ShowsBlocks up (λ c. c ≡ b)
   pub shows_down : ShowsBlocks down (λ c. c ≡ b)
   pub changes : (n : ℕ) → Contains bottoms n ↔ IsLowChange patches level most b n
-  pub first : (n : ℕ) → Contains tops n → IsFirstAway patches b row n
+  pub first : (n : ℕ) → Contains tops n → IsFirstAway patches over b row n
 
 module _ (heads : List Head) (rising : AreRising heads) (disk : IsOnDiskWithAll (patches_of heads)) (hard : HardNeverHold (patches_of heads)) (flights : FlightsStandAlone (patches_of heads))
     (level floor : ℕ → ℕ) (leveled : AreLeveled (patches_of heads) level floor) (needs : ℕ → List ℕ) (needed : AreNeeded (patches_of heads) needs)
-    (most least b : ℕ) (floored : least ≤ floor b) (row : List ℕ) (up down : List Bool) (bottoms tops : List ℕ) (ends : AreEnds (patches_of heads) level most b row up down bottoms tops) where
+    (over : ℕ → ℕ) (kept : AreUnder (patches_of heads) over) (most least b : ℕ) (floored : least ≤ floor b) (row : List ℕ) (up down : List Bool) (bottoms tops : List ℕ) (ends : AreEnds (patches_of heads) level over most b row up down bottoms tops) where
   abbrev all : List Patch
   all = patches_of heads
 
@@ -301,17 +308,17 @@ module _ (heads : List Head) (rising : AreRising heads) (disk : IsOnDiskWithAll 
   begin_apart n above below = off_not_on all ordered b n (ends.first n below).away ((ends.changes n).0 above).0
 
   whole : (top n : ℕ) → Leads (StepsHigh all level least needs down) top n → Leads (StepsWhole all down) top n
-  whole = wholly heads rising disk hard flights level floor leveled needs needed b least floored row up down ends.shows_up ends.shows_down tops ends.first
+  whole = wholly heads rising disk hard flights level floor leveled needs needed over kept b least floored row up down ends.shows_up ends.shows_down tops ends.first
 
   down_to : (top n : ℕ) → Contains tops top → Leads (StepsHigh all level least needs down) top n → Leads (StepsUp all up) n top
-  down_to top n c path = under_up heads rising disk hard flights level floor leveled needs needed b least floored row up down ends.shows_up ends.shows_down tops ends.first top n c (whole top n path)
+  down_to top n c path = under_up heads rising disk hard flights level floor leveled needs needed over kept b least floored row up down ends.shows_up ends.shows_down tops ends.first top n c (whole top n path)
 
   -- where the walks lead to the same, a way leads back to one from which the walk up starts
   pub together_soft : (n : ℕ) → LeadTogether all level needs most least up down bottoms tops n → LeadsNowhere all b row → ⊥
   together_soft n met =
       let x = led_leads (StepsLow all level most up) bottoms n met.over in
       let a = led_leads (StepsHigh all level least needs down) tops n met.under in
-      let back = back_from heads rising disk hard flights level floor leveled needs needed b least floored row up down ends.shows_up ends.shows_down tops ends.first x.0 a.0 n a.1 ((ends.changes x.0).0 x.1).0
+      let back = back_from heads rising disk hard flights level floor leveled needs needed over kept b least floored row up down ends.shows_up ends.shows_down tops ends.first x.0 a.0 n a.1 ((ends.changes x.0).0 x.1).0
       (whole a.0 n a.2) (leads_up all level floor leveled up most x.0 n x.2) in
       back_leads all ordered disk b row x.0 back
 
@@ -327,7 +334,7 @@ module _ (heads : List Head) (rising : AreRising heads) (disk : IsOnDiskWithAll 
   traced_back n end met change path =
       let a = led_leads (StepsHigh all level least needs down) tops n met.under in
       let below = leads_on (StepsWhole all down) a.0 n end (whole a.0 n a.2) (to_wholes all needs needed b down ends.shows_down n end path) in
-      back_from heads rising disk hard flights level floor leveled needs needed b least floored row up down ends.shows_up ends.shows_down tops ends.first end a.0 end a.1 change below (inl refl)
+      back_from heads rising disk hard flights level floor leveled needs needed over kept b least floored row up down ends.shows_up ends.shows_down tops ends.first end a.0 end a.1 change below (inl refl)
 
   -- a change of b that the walk down leads to is one that the walk up starts from
   under_bottom : (n : ℕ) → IsLedFrom (StepsHigh all level least needs down) tops n → PassesAt (test.LiveOn b) all n → Contains bottoms n
@@ -336,14 +343,14 @@ module _ (heads : List Head) (rising : AreRising heads) (disk : IsOnDiskWithAll 
       (ends.changes n).1 (x, (low_leads all level floor leveled up most n a.0 (down_to a.0 n a.1 a.2) (ends.low a.0 a.1)).0)
 
   -- where they start from all of the first changes, one has met all and nothing was met by both, none does
-  pub apart_hard : ((n : ℕ) → IsFirstAway all b row n → Contains tops n) → (over under : List ℕ) → EndApart all level needs most least up down bottoms tops over under → LeadsNowhere all b row
-  apart_hard from_all over under met = elim met.ended [
+  pub apart_hard : ((n : ℕ) → IsFirstAway all over b row n → Contains tops n) → (above below : List ℕ) → EndApart all level needs most least up down bottoms tops above below → LeadsNowhere all b row
+  apart_hard from_all above below met = elim met.ended [
     | inl each ↦ none_leads all ordered disk b row (λ end l.
-        let f = first_back heads rising disk hard b up ends.shows_up row end l in
+        let f = first_back heads rising disk hard over kept b up ends.shows_up row end l in
         let n = f.0 in
         let top = from_all n f.1 in
         let path = low_leads all level floor leveled up most end n (inr f.2) (ends.low n top) in
         met.apart n (each n (leads_led (StepsLow all level most up) bottoms end n ((ends.changes end).1 (l.change, path.0)) path.1)) (met.under_begun n top))
     | inr each ↦
-        comes_hard heads rising disk hard flights level floor leveled needs needed b least floored row up down ends.shows_up ends.shows_down tops ends.first from_all (λ at x. met.apart at (met.over_begun at (under_bottom at x.under x.change)) (each at x.under))
+        comes_hard heads rising disk hard flights level floor leveled needs needed over kept b least floored row up down ends.shows_up ends.shows_down tops ends.first from_all (λ at x. met.apart at (met.over_begun at (under_bottom at x.under x.change)) (each at x.under))
   ]

@@ -3,25 +3,25 @@ use Rattle.std.specs.Prelude.{◌≡◌, ◌≢◌, ◌≤◌, ◌⊎◌, ℕ, B
 use Rattle.fst_types.specs.{Closure.Closure, Dependencies.{DirectlyOn, IsLiveNumber}, Patches.{Patch, IsLive}}
 use Rattle.fst_heads.specs.{Grading.IsHardNumber, Indices.PassesAt, Reaching.IsReached, declared.head.Head.Head}
 use Rattle.fst_walks.specs.{Descending.IsLedFrom, declared.block_walk.BlockWalk.BlockWalk}
-use Rattle.fst_levels.specs.WayBack.{Crosses}
+use Rattle.fst_levels.specs.WayBack.{Crosses, IsKeptUnder}
 use Rattle.fst_heads.specs.declared.test.Test.TheVariants as test
 
--- the way down to the first changes of other blocks goes through p: it is none, nor a hard change of b in memory, below which nothing leads back to b
-pub record GoesThrough (patches : List Patch) (b p : ℕ) : Type 0 where
+-- the way down to the first changes of other blocks goes through p: it is none, nor kept as a hard change of b in memory or below one, from where nothing leads back to b
+pub record GoesThrough (patches : List Patch) (over : ℕ → ℕ) (b p : ℕ) : Type 0 where
   pub own : PassesAt (test.LiveOff b) patches p → ⊥
-  pub soft : IsHardNumber patches b p → ⊥
+  pub open_ended : IsKeptUnder patches over b p → ⊥
 
 -- a step of that way: to a direct dependency that is not on disk
-abbrev pub StepsAway : List Patch → ℕ → ℕ → ℕ → Type 0
-StepsAway patches b p q = GoesThrough patches b p × DirectlyOn patches p q × IsLiveNumber patches q
+abbrev pub StepsAway : List Patch → (ℕ → ℕ) → ℕ → ℕ → ℕ → Type 0
+StepsAway patches over b p q = GoesThrough patches over b p × DirectlyOn patches p q × IsLiveNumber patches q
 
 -- n is a change of another block, not on disk, and in the row, or that way leads from one of the row to it
-pub record IsFirstAway (patches : List Patch) (b : ℕ) (row : List ℕ) (n : ℕ) : Type 0 where
+pub record IsFirstAway (patches : List Patch) (over : ℕ → ℕ) (b : ℕ) (row : List ℕ) (n : ℕ) : Type 0 where
   pub away : PassesAt (test.LiveOff b) patches n
   pub top : ℕ
   pub named : Contains row top
   pub live : IsLiveNumber patches top
-  pub path : (top ≡ n) ⊎ Closure (StepsAway patches b) top n
+  pub path : (top ≡ n) ⊎ Closure (StepsAway patches over b) top n
 
 -- q is not on disk, and is kept as needed by block c
 abbrev pub IsNeed : List Patch → (ℕ → List ℕ) → ℕ → ℕ → Type 0

@@ -1,34 +1,36 @@
 //! The first changes of other blocks at or below a row. A way back to a block comes down from the row to one of them, so
 //! that a walk that looks for such a way from its lower end begins at them. What lies below another block's change is left
-//! to that walk; and what lies below a hard change of the block in memory leads nowhere, as for each hard change.
+//! to that walk; and what lies below a hard change of the block in memory leads nowhere, as for each hard change, so that the
+//! way goes through no patch that is known to (`fst_levels::under_hard`).
 
 ghost use Rattle.std.specs.Prelude.{◌≡◌, ◌⊎◌, ◌≤◌, ◌<◌, ◌↔◌, ℕ, length, Contains, IsTrue, slice_index_or};
-ghost use Rattle.fst_heads.specs.Heads.{IsRising, patches_of};
+ghost use Rattle.fst_heads.specs.Heads.{patches_of};
 ghost use Rattle.fst_heads.specs.Indices.{HasIndex};
 ghost use Rattle.fst_walks.specs.BothEnds.{GoesThrough, IsFirstAway, StepsAway};
 ghost use Rattle.fst_walks.specs.Descending.{IsLedFrom, Visited, Visits};
+ghost use Rattle.fst_levels.specs.Leveling.{hard_over_of};
 ghost use Rattle.fst_levels.specs.Sights.{Sees};
 ghost use Rattle.fst_levels.specs.Walks.{numbers_met};
 
 use crate::descent::keep_away;
 use crate::way_down::visit_high_row;
-use fst_heads::head::Head;
 use fst_heads::test::{Test, passes};
-use fst_levels::shortcuts::{is_hard_in, newest_few};
+use fst_levels::shortcuts::newest_few;
 use fst_levels::sight::Sight;
+use fst_levels::under_hard::is_under_hard;
 use fst_levels::walk::Walk;
 
 /// At how many patches below a row a search looks before it begins with those that it has found.
 pub const FEW: usize = 256;
 
 // Whether the way down goes through the patch at the index.
-fn goes_through(heads: &[Head], index: usize, block: u32) -> bool
-    requires rising { IsRising heads.now }
-    requires inside { index < length heads.now }
-    ensures { (number : ℕ) → HasIndex heads.now number index → IsTrue result ↔ GoesThrough (patches_of heads.now) block number }
+fn goes_through(sight: &Sight<'_>, index: usize, block: u32) -> bool
+    requires sees { Sees sight.now }
+    requires inside { index < length sight.now.heads.now }
+    ensures { (number : ℕ) → HasIndex sight.now.heads.now number index → IsTrue result ↔ GoesThrough (patches_of sight.now.heads.now) (hard_over_of sight.now.levels.now.ranks) block number }
 {
-    let head = &heads[index];
-    !passes(Test::LiveOff(block), head) && !is_hard_in(head, block)
+    !passes(Test::LiveOff(block), &sight.heads[index])
+        && !is_under_hard(sight.levels, sight.heads, block, index)
 }
 
 // Visits what the patch that was met there in turn directly depends on, if the way goes through it, and answers how many that
@@ -38,11 +40,11 @@ fn step_away(sight: &Sight<'_>, walk: &mut Walk, at: usize, block: u32, most: us
     requires visited { Visited sight.now.heads.now walk.old }
     requires at { at < length walk.old.met }
     ensures visited { Visited sight.now.heads.now walk.new }
-    ensures only { (n : ℕ) → Contains (numbers_met sight.now.heads.now walk.new) n → Contains (numbers_met sight.now.heads.now walk.old) n ⊎ StepsAway (patches_of sight.now.heads.now) block (slice_index_or (numbers_met sight.now.heads.now walk.old) at 0) n }
-    ensures visits { result ≤ most → Visits (StepsAway (patches_of sight.now.heads.now) block (slice_index_or (numbers_met sight.now.heads.now walk.old) at 0)) (numbers_met sight.now.heads.now walk.old) (numbers_met sight.now.heads.now walk.new) }
+    ensures only { (n : ℕ) → Contains (numbers_met sight.now.heads.now walk.new) n → Contains (numbers_met sight.now.heads.now walk.old) n ⊎ StepsAway (patches_of sight.now.heads.now) (hard_over_of sight.now.levels.now.ranks) block (slice_index_or (numbers_met sight.now.heads.now walk.old) at 0) n }
+    ensures visits { result ≤ most → Visits (StepsAway (patches_of sight.now.heads.now) (hard_over_of sight.now.levels.now.ranks) block (slice_index_or (numbers_met sight.now.heads.now walk.old) at 0)) (numbers_met sight.now.heads.now walk.old) (numbers_met sight.now.heads.now walk.new) }
 {
     let index = walk.index_at(at);
-    if !goes_through(sight.heads, index, block) {
+    if !goes_through(sight, index, block) {
         return 0;
     }
     let below = sight.heads[index].dependencies.as_slice();
@@ -56,8 +58,8 @@ fn walk_away(sight: &Sight<'_>, walk: &mut Walk, block: u32, most: usize) -> usi
     requires sees { Sees sight.now }
     requires visited { Visited sight.now.heads.now walk.old }
     ensures visited { Visited sight.now.heads.now walk.new }
-    ensures only { (n : ℕ) → Contains (numbers_met sight.now.heads.now walk.new) n → IsLedFrom (StepsAway (patches_of sight.now.heads.now) block) (numbers_met sight.now.heads.now walk.old) n }
-    ensures led { result ≤ most → (n : ℕ) → Contains (numbers_met sight.now.heads.now walk.new) n ↔ IsLedFrom (StepsAway (patches_of sight.now.heads.now) block) (numbers_met sight.now.heads.now walk.old) n }
+    ensures only { (n : ℕ) → Contains (numbers_met sight.now.heads.now walk.new) n → IsLedFrom (StepsAway (patches_of sight.now.heads.now) (hard_over_of sight.now.levels.now.ranks) block) (numbers_met sight.now.heads.now walk.old) n }
+    ensures led { result ≤ most → (n : ℕ) → Contains (numbers_met sight.now.heads.now walk.new) n ↔ IsLedFrom (StepsAway (patches_of sight.now.heads.now) (hard_over_of sight.now.levels.now.ranks) block) (numbers_met sight.now.heads.now walk.old) n }
 {
     let mut at = 0;
     let mut looked: usize = 0;
@@ -83,8 +85,8 @@ pub fn visit_first_away(
     requires sees { Sees sight.now }
     requires long { length walk.old.marks ≡ length sight.now.heads.now }
     ensures visited { Visited sight.now.heads.now walk.new }
-    ensures only { (n : ℕ) → Contains (numbers_met sight.now.heads.now walk.new) n → IsFirstAway (patches_of sight.now.heads.now) block row.now n }
-    ensures all { result ≤ most → (n : ℕ) → IsFirstAway (patches_of sight.now.heads.now) block row.now n → Contains (numbers_met sight.now.heads.now walk.new) n }
+    ensures only { (n : ℕ) → Contains (numbers_met sight.now.heads.now walk.new) n → IsFirstAway (patches_of sight.now.heads.now) (hard_over_of sight.now.levels.now.ranks) block row.now n }
+    ensures all { result ≤ most → (n : ℕ) → IsFirstAway (patches_of sight.now.heads.now) (hard_over_of sight.now.levels.now.ranks) block row.now n → Contains (numbers_met sight.now.heads.now walk.new) n }
 {
     walk.clear();
     visit_high_row(sight, walk, row, 0);

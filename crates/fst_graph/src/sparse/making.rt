@@ -32,6 +32,7 @@ use fst_heads::standing::Standing;
 use fst_levels::ancestors::ancestry_over;
 use fst_levels::levels::Rank;
 use fst_levels::sight::Sight;
+use fst_levels::under_hard::keep_under;
 use fst_types::{BlockNo, Fault, Grade, PatchNo, Place, Span};
 use fst_walks::lift::rise_of;
 use std::alloc::Global;
@@ -139,8 +140,8 @@ impl Sparse {
         }
     }
 
-    /// Puts down the change that is prepared. Where it is for a group, whose head is not open, the tail gains it.
-    pub fn put(&mut self) -> (PatchNo, Grade)
+    // As `put`, but of what lies below the change nothing is kept.
+    fn put_alone(&mut self) -> (PatchNo, Grade)
         requires { (p : Prepared) × (self.old.prepared ≡ Some p) × IfSome p.group (λ head. IsOpenNumber self.old.heads head → ⊥) }
         ensures alone { IfSome self.old.prepared (λ p. IfNone p.group (AddsSparse (unprepared self.old) p.block p.at p.len p.after result.0.0 result.1 self.new)) }
         ensures tied { IfSome self.old.prepared (λ p. IfSome p.group (λ head. (with_change : Known) × AddsSparse (unprepared self.old) p.block p.at p.len (head ∷ []) result.0.0 result.1 with_change × DependsGate with_change (head + 1) (result.0.0 ∷ []) self.new)) }
@@ -178,6 +179,7 @@ impl Sparse {
             number,
             level: rise.level,
             ancestry: ancestry_over(&self.columns.levels, &self.columns.heads, row, number),
+            hard_over: 0,
         };
         let fresh = Fresh {
             number,
@@ -206,6 +208,30 @@ impl Sparse {
             }
             None => (PatchNo(number), grade),
         }
+    }
+
+    // Keeps the change with the number, if it is hard, as the one over what lies below it.
+    fn keep_under(&mut self, number: u32)
+        ensures { self.new ≡ self.old }
+    {
+        keep_under(
+            &mut self.columns.levels,
+            &self.columns.heads,
+            &mut self.columns.ends.up.walk,
+            number,
+        );
+    }
+
+    /// Puts down the change that is prepared. Where it is for a group, whose head is not open, the tail gains it.
+    pub fn put(&mut self) -> (PatchNo, Grade)
+        requires { (p : Prepared) × (self.old.prepared ≡ Some p) × IfSome p.group (λ head. IsOpenNumber self.old.heads head → ⊥) }
+        ensures alone { IfSome self.old.prepared (λ p. IfNone p.group (AddsSparse (unprepared self.old) p.block p.at p.len p.after result.0.0 result.1 self.new)) }
+        ensures tied { IfSome self.old.prepared (λ p. IfSome p.group (λ head. (with_change : Known) × AddsSparse (unprepared self.old) p.block p.at p.len (head ∷ []) result.0.0 result.1 with_change × DependsGate with_change (head + 1) (result.0.0 ∷ []) self.new)) }
+        ensures foreseen { IfSome self.old.prepared (λ p. (result.0.0 ≡ p.number) × (result.1 ≡ p.grade)) }
+    {
+        let (number, grade) = self.put_alone();
+        self.keep_under(number.0);
+        (number, grade)
     }
 
     /// A new change of the block, which depends on the named patches that are not on disk and on the changes not on disk

@@ -16,7 +16,7 @@ returns-clause-leveled c =
     let put = c.put_ancestry.ensures in
     subst (λ n. IsLeveled (patches_of heads) n new) (sym (ap length put.floors))
     (renewed_is_leveled heads c.requires.rising (length old.floors) old new c.requires.leveled c.args.number c.in-Some.index c.in-Some.ensures.found c.ancestry_over-ancestry.result
-    c.as_slice-row.result.now c.index-heads-index.result c.as_slice-row.ensures c.ancestry_over-ancestry.ensures put.numbers put.levels put.parent put.jump put.rest put.floors)
+    c.as_slice-row.result.now c.index-heads-index.result c.as_slice-row.ensures c.ancestry_over-ancestry.ensures put.numbers put.levels put.overs put.parent put.jump put.rest put.floors)
 
 pub returns-clause-floors : goal.returns-clause-floors
 returns-clause-floors c = grind (arith, common_steps)

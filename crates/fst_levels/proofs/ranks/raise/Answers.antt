@@ -1,20 +1,20 @@
 use Rattle.std.proofs.{Common.{◌∙◌, ℕ, ap, sym}, Math.Seq.map-set_same}
-use Rattle.fst_levels.specs.declared.levels.{Rank.Rank}
+use Rattle.fst_levels.specs.{Leveling.unleveled, declared.levels.Rank.Rank}
 use Rattle.fst_heads.proofs.Indices.{any_default}
 use Rattle.fst_levels.proofs.Raised.{kept_beside, kept_here}
 use Rattle.fst_levels.proofs.ranks.raise.Goals as goal
 
 -- the rank that is put there
 abbrev at_level : ℕ → Rank → Rank
-at_level to r = record { number = r.number; level = to; ancestry = r.ancestry }
+at_level to r = record r { level = to }
 
 pub returns-clause-numbers : goal.returns-clause-numbers
 returns-clause-numbers c =
     map-set_same (λ (r : Rank). r.number) c.args.ranks.now.items c.args.index (at_level c.args.to c.index_mut.result.now) c.index_mut.result.now (ap (λ (r : Rank). r.number) c.index_mut.ensures.value)
 
-pub returns-clause-ancestries : goal.returns-clause-ancestries
-returns-clause-ancestries c =
-    map-set_same (λ (r : Rank). r.ancestry) c.args.ranks.now.items c.args.index (at_level c.args.to c.index_mut.result.now) c.index_mut.result.now (ap (λ (r : Rank). r.ancestry) c.index_mut.ensures.value)
+pub returns-clause-beside : goal.returns-clause-beside
+returns-clause-beside c =
+    map-set_same unleveled c.args.ranks.now.items c.args.index (at_level c.args.to c.index_mut.result.now) c.index_mut.result.now (ap unleveled c.index_mut.ensures.value)
 
 pub returns-clause-raised : goal.returns-clause-raised
 returns-clause-raised c d =

@@ -2,7 +2,7 @@ use Rattle.std.proofs.Common.{[], Contains, subst, arith}
 use Rattle.fst_types.specs.Dependencies.{IsLiveNumber}
 use Rattle.fst_heads.specs.Heads.{patches_of}
 use Rattle.fst_walks.specs.Descending.{Visits}
-use Rattle.fst_levels.specs.Walks.{numbers_met}
+use Rattle.fst_levels.specs.{Leveling.hard_over_of, Walks.numbers_met}
 use Rattle.fst_walks.proofs.{Meeting.{first_only, first_all}, Visiting.{visits_same}}
 use Rattle.fst_levels.proofs.MetNumbers.{none_met}
 use Rattle.fst_walks.proofs.first_away.visit_first_away.Goals.{After-visit_high_row}
@@ -19,10 +19,10 @@ pub returns-clause-only : goal.returns-clause-only
 returns-clause-only c =
     let heads = c.args.sight.now.heads.now in
     let patches = patches_of heads in
-    first_only patches c.args.block c.args.row.now (numbers_met heads c.visit_high_row.new.walk) (numbers_met heads c.walk_away-looked.new.walk) (numbers_met heads c.keep_away.new.walk) (starts (goal.at.returns-clause-only c).After-visit_high_row) c.walk_away-looked.ensures.only c.keep_away.ensures.kept
+    first_only patches (hard_over_of c.args.sight.now.levels.now.ranks) c.args.block c.args.row.now (numbers_met heads c.visit_high_row.new.walk) (numbers_met heads c.walk_away-looked.new.walk) (numbers_met heads c.keep_away.new.walk) (starts (goal.at.returns-clause-only c).After-visit_high_row) c.walk_away-looked.ensures.only c.keep_away.ensures.kept
 
 pub returns-clause-all : goal.returns-clause-all
 returns-clause-all c few =
     let heads = c.args.sight.now.heads.now in
     let patches = patches_of heads in
-    first_all patches c.args.block c.args.row.now (numbers_met heads c.visit_high_row.new.walk) (numbers_met heads c.walk_away-looked.new.walk) (numbers_met heads c.keep_away.new.walk) (starts (goal.at.returns-clause-all c).After-visit_high_row) (λ n. (c.walk_away-looked.ensures.led few n).1) c.keep_away.ensures.kept
+    first_all patches (hard_over_of c.args.sight.now.levels.now.ranks) c.args.block c.args.row.now (numbers_met heads c.visit_high_row.new.walk) (numbers_met heads c.walk_away-looked.new.walk) (numbers_met heads c.keep_away.new.walk) (starts (goal.at.returns-clause-all c).After-visit_high_row) (λ n. (c.walk_away-looked.ensures.led few n).1) c.keep_away.ensures.kept

@@ -24,7 +24,7 @@ returns c =
     (c.raise.ensures.numbers)
     (c.raise_floor.ensures.long) refl
     c.raise.ensures.raised
-    c.raise.ensures.ancestries
+    c.raise.ensures.beside
     c.raise.ensures.rest
     c.index-heads-index.result c.index-heads-index.is c.raise_floor.ensures.raised
     c.raise_floor.ensures.rest)

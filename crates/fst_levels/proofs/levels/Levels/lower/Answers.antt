@@ -24,7 +24,7 @@ returns-then-level-clause-leveled c =
     (λ d. let k = c.level.ensures d in let e = ap (λ (v : Leveling). (get_or v.ranks s d).level) c.self.view_is in omega (arith, k, e, c.if-level.true))
     (λ b on. let over = c.own_level.ensures.change b on in subst (λ (v : Leveling). floor_of v.floors b ≤ c.max-level.result) (sym c.self.view_is) (omega (arith, over, second, c.max-level.ensures)))
     (λ is_open. let top = c.own_level.ensures.gate is_open in omega (arith, top, second, c.max-level.ensures))
-    c.raise.ensures.numbers c.raise.ensures.raised c.raise.ensures.rest c.raise.ensures.ancestries refl
+    c.raise.ensures.numbers c.raise.ensures.raised c.raise.ensures.rest c.raise.ensures.beside refl
     (subst (λ (v : Leveling). IsLeveled (patches_of heads) (length v.floors) v) (sym c.self.view_is) c.requires.leveled))
 
 pub returns-else-level-clause-leveled : goal.returns-else-level-clause-leveled

@@ -7,7 +7,7 @@ use Rattle.fst_levels.proofs.levels.Levels.put_ancestry.Goals as goal
 
 -- the rank that is put there
 abbrev with_ancestry : Ancestry → Rank → Rank
-with_ancestry ancestry r = record { number = r.number; level = r.level; ancestry = ancestry }
+with_ancestry ancestry r = record r { ancestry = ancestry }
 
 inside : (c : After-index_mut) → c.args.index < length c.self.inside.ranks.items
 inside c = subst (λ (v : Leveling). c.args.index < length v.ranks) (sym c.self.view_is) c.requires.index
@@ -25,6 +25,10 @@ returns-clause-numbers c =
 pub returns-clause-levels : goal.returns-clause-levels
 returns-clause-levels c =
     rw (← c.self.view_is) (map-set_same (λ (r : Rank). r.level) c.self.inside.ranks.items c.args.index (with_ancestry c.args.ancestry c.index_mut.result.now) c.index_mut.result.now (ap (λ (r : Rank). r.level) c.index_mut.ensures.value))
+
+pub returns-clause-overs : goal.returns-clause-overs
+returns-clause-overs c =
+    rw (← c.self.view_is) (map-set_same (λ (r : Rank). r.hard_over) c.self.inside.ranks.items c.args.index (with_ancestry c.args.ancestry c.index_mut.result.now) c.index_mut.result.now (ap (λ (r : Rank). r.hard_over) c.index_mut.ensures.value))
 
 pub returns-clause-parent : goal.returns-clause-parent
 returns-clause-parent c d =

@@ -6,8 +6,8 @@ use Rattle.fst_graph.specs.{Known.{Known, DependsGate}, Ready.change_of, Remembe
 use Rattle.fst_graph.proofs.{Borne.{few_waiting, gain_room}, Made.{change_sound, gained_sound, may_enlist, may_go_on, may_lift, may_need, may_put, may_rise, named_patches, put_patches}, PutNow.{number_free, put_now, IsPutDown, IsPutNow}}
 use Rattle.fst_graph.proofs.{Flagged.{gained_flags, gained_landed, gone_past, remembered_as, remembered_made, remembered_still}, Remembered.open_number, RememberedCalls.depend_known, RememberedLooks.live_few, RememberedSparse.pushed_remembered}
 use Rattle.fst_graph.proofs.{Readied.{ready_adds, ready_made}, Sound.{rising_sound, view_gone, view_long}, Shelf.put_remembered, TailGains.{member_kept, tail_may, tail_small}}
-use Rattle.fst_graph.proofs.sparse.Sparse.put.Goals.{After-as_slice-row, After-put_down-pending, After-put-2}
-use Rattle.fst_graph.proofs.sparse.Sparse.put.Goals as goal
+use Rattle.fst_graph.proofs.sparse.Sparse.put_alone.Goals.{After-as_slice-row, After-put_down-pending, After-put-2}
+use Rattle.fst_graph.proofs.sparse.Sparse.put_alone.Goals as goal
 
 -- what is prepared may be put down
 now : (c : After-as_slice-row)

@@ -1,0 +1,18 @@
+use Rattle.std.proofs.Common.{◌≡◌, ◌⊎◌, ◌-◌, ℕ, Contains, length}
+use Rattle.fst_types.specs.Dependencies.{DependsOn}
+use Rattle.fst_heads.specs.Heads.{patches_of}
+use Rattle.fst_levels.specs.{Leveling.IsLeveled, Walks.numbers_met}
+use Rattle.fst_levels.proofs.under_hard.keep_under.Given as goal
+
+abbrev pub invariant-loop-at : goal.invariant-loop-at
+invariant-loop-at l = record {
+  leveled : IsLeveled (patches_of l.heads) (length l.initial.levels.floors) l.levels;
+  ranks : length l.levels.ranks ≡ length l.initial.levels.ranks;
+  places : l.levels.room ≡ l.initial.levels.room;
+  long : length l.walk.marks ≡ length l.heads;
+  room : l.walk.room ≡ l.initial.walk.room;
+  below : (n : ℕ) → Contains (numbers_met l.heads l.walk) n → (l.over ≡ n) ⊎ DependsOn (patches_of l.heads) l.over n;
+}
+
+abbrev pub decreases-loop-at : goal.decreases-loop-at
+decreases-loop-at l = length l.heads - l.at
