@@ -175,9 +175,34 @@ def gate_each():
     return made
 
 
+def fan_of_own():
+    """A gate over 10,000 changes of a block that were behind another, and 5,000 that each come after it and one of them."""
+    made = Script(2)
+    first = made.gate()
+    deep = [made.patch(1, at, [first]) for at in range(4)]
+    own = [made.patch(0, made.dice.randrange(4096), [first, made.dice.choice(deep)]) for _ in range(MANY // 2)]
+    made.ask("seal", gate=first)
+    gate = made.sealed(own)
+    for _ in range(MANY // 4):
+        made.patch(0, made.dice.randrange(4096), [gate, made.dice.choice(own)])
+    return made
+
+
+def fan_of_others():
+    """A gate over 10,000 changes of other blocks, and 5,000 changes that each come after it and one of 5,000 behind another."""
+    made = Script(16)
+    gate = made.sealed([made.patch(1 + turn % 15, made.dice.randrange(4096)) for turn in range(MANY // 2)])
+    first = made.gate()
+    own = [made.patch(0, made.dice.randrange(4096), [first]) for _ in range(MANY // 4)]
+    made.ask("seal", gate=first)
+    for below in own:
+        made.patch(0, made.dice.randrange(4096), [gate, below])
+    return made
+
+
 SHAPES = [
     ring_back, gates_in_a_chain, two_families, three_blocks, groups_in_a_chain, chains_of_groups, deep_below, tower,
-    behind_a_gate, gate_each, deep_over, many_needs, superblock_waits,
+    behind_a_gate, gate_each, deep_over, many_needs, superblock_waits, fan_of_own, fan_of_others,
 ]
 
 

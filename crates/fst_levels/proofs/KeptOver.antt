@@ -1,4 +1,4 @@
--- Levels stay right where another hard change is kept over a patch, and what is below one by that.
+-- Levels stay right where another hard change is kept over a patch; and what is kept so lies below one.
 use Rattle.std.proofs.Common.{◌≡◌, ◌≢◌, ◌∙◌, ℕ, List, map, get_or, set, Contains, sym, ap, subst, refl, inl, inr, arith}
 use Rattle.std.proofs.Math.Seq.{map-set_same}
 use Rattle.fst_types.specs.{Dependencies.DependsOn, Patches.Patch}

@@ -1,7 +1,7 @@
 //! Levels: what tells without a walk that a way leads nowhere. Each head has a level and each block a floor, so that no way
 //! down rises: what a patch depends on is no higher than it is, a change is no lower than the floor of its block, and a hard
 //! change in memory is no higher. So what lies below a floor can come to wait for nothing of that block. Beside its level the
-//! ancestry of each head is kept (`ancestors`), and of a change a hard one over it (`under_hard`).
+//! ancestry of each head is kept (`ancestors`), and of some a hard change over them (`under_hard`).
 
 ghost use Rattle.std.specs.Prelude.{vec_capacity, count_by, ◌≡◌, ◌≢◌, ◌≤◌, ◌<◌, ◌+◌, ◌++◌, ◌∷◌, [], ℕ, List, false, IsTrue, length, map, filter, Contains, AllPairs, IfOk, IfSome, IfNone, OnOk, slice_index_or};
 ghost use Rattle.fst_types.specs.Tests.{is_live};
@@ -42,7 +42,7 @@ pub struct Ancestry {
     pub depth: u32,
 }
 
-/// A head's number, its level and its ancestry, and for a change the number of a hard one of its block over it, 0 for none.
+/// A head's number, its level and its ancestry, and the number of a hard change that is kept over it (`under_hard`), 0 for none.
 #[derive(Clone, Copy)]
 pub struct Rank {
     pub number: u32,

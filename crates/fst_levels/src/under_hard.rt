@@ -1,9 +1,11 @@
 //! A hard change of a block in memory over a patch. What lies below a hard change leads nowhere, and that stays so for as long as
 //! it is in memory. So a new change over soft ones of its own block, which were made behind gates that are sealed by now, need
-//! not go through all of them. Once a hard change is made, a walk goes down from it through changes of its block, and keeps it as
-//! the one over each of them. It ends where one in memory is kept already, so that all such walks together are about as long as
-//! the block's list, however many hard changes are made over it. No other call has to look after what is kept: as long as a patch
-//! is not on disk, neither is what depends on it; and hard changes of a block go into one write, with what lies below them.
+//! not go through all of them. Once a hard change is made, a walk goes down from it to the changes of other blocks, and keeps it
+//! as the one over each patch that it meets. It leaves out what is lower, and so below the floor of the block, which tells as
+//! much; and it ends where one in memory is kept already, so that all such walks together are about as long as the block's list,
+//! however many hard changes are made over it. One place is enough for a gate too: over one that depends on changes of two
+//! blocks only one of them has hard changes. No other call has to look after what is kept: as long as a patch is not on disk,
+//! neither is what depends on it; and hard changes of a block go into one write, with what lies below them.
 
 ghost use Rattle.std.specs.Prelude.{◌≡◌, ◌<◌, ◌↔◌, ◌⊎◌, ℕ, IsTrue, Contains, length, map};
 ghost use Rattle.fst_types.specs.Dependencies.{DependsOn};
@@ -19,7 +21,7 @@ use crate::shortcuts::is_hard_in;
 use crate::sight::Sight;
 use crate::walk::Walk;
 use fst_heads::head::{Head, Kind};
-use fst_heads::test::{Test, passes};
+use fst_heads::test::{Test, is_live, passes};
 use fst_types::Grade;
 
 /// Whether the patch at the index is a hard change of the block in memory, or such a one is kept over it.
@@ -53,66 +55,67 @@ pub fn is_known_under(sight: &Sight<'_>, block: u32, number: u32) -> bool
     }
 }
 
-// Keeps the hard change `over` of the block as the one over the patch with the number, which is below it: if that is a change of
-// the block that is not on disk, and neither is hard and in memory nor has such a one kept over it. It is met then.
-fn keep_over(
-    levels: &mut Levels,
-    heads: &[Head],
-    walk: &mut Walk,
-    block: u32,
-    over: u32,
+// A hard change, its block and its level, which is the floor of that.
+#[derive(Clone, Copy)]
+struct Top {
     number: u32,
-)
+    block: u32,
+    level: u32,
+}
+
+// Keeps the hard change as the one over the patch with the number, which is below it: if that is not on disk, no change of
+// another block and no lower, and neither is hard and in memory nor has such a one of the block kept over it. It is met then.
+fn keep_over(levels: &mut Levels, heads: &[Head], walk: &mut Walk, top: Top, number: u32)
     requires rising { IsRising heads.now }
     requires leveled { IsLeveled (patches_of heads.now) (length levels.old.floors) levels.old }
     requires long { length walk.old.marks ≡ length heads.now }
-    requires below { DependsOn (patches_of heads.now) over number }
-    requires met { (n : ℕ) → Contains (numbers_met heads.now walk.old) n → (over ≡ n) ⊎ DependsOn (patches_of heads.now) over n }
+    requires below { DependsOn (patches_of heads.now) top.number number }
+    requires met { (n : ℕ) → Contains (numbers_met heads.now walk.old) n → (top.number ≡ n) ⊎ DependsOn (patches_of heads.now) top.number n }
     ensures leveled { IsLeveled (patches_of heads.now) (length levels.old.floors) levels.new }
     ensures levels { (length levels.new.ranks ≡ length levels.old.ranks) × (levels.new.room ≡ levels.old.room) }
     ensures long { length walk.new.marks ≡ length heads.now }
     ensures room { walk.new.room ≡ walk.old.room }
-    ensures met { (n : ℕ) → Contains (numbers_met heads.now walk.new) n → (over ≡ n) ⊎ DependsOn (patches_of heads.now) over n }
+    ensures met { (n : ℕ) → Contains (numbers_met heads.now walk.new) n → (top.number ≡ n) ⊎ DependsOn (patches_of heads.now) top.number n }
 {
     let Some(index) = levels.find(heads, number) else {
         return;
     };
-    if !passes(Test::LiveOn(block), &heads[index]) || is_under_hard(levels, heads, block, index) {
+    if levels.level(index) < top.level {
         return;
     }
-    levels.put_hard_over(heads, index, over);
+    let head = &heads[index];
+    if !is_live(head.place) || passes(Test::LiveOff(top.block), head) {
+        return;
+    }
+    if is_under_hard(levels, heads, top.block, index) {
+        return;
+    }
+    levels.put_hard_over(heads, index, top.number);
     walk.meet(index);
 }
 
 // Keeps it so over what the patch that was met there in turn directly depends on.
-fn keep_below(
-    levels: &mut Levels,
-    heads: &[Head],
-    walk: &mut Walk,
-    block: u32,
-    over: u32,
-    at: usize,
-)
+fn keep_below(levels: &mut Levels, heads: &[Head], walk: &mut Walk, top: Top, at: usize)
     requires rising { IsRising heads.now }
     requires leveled { IsLeveled (patches_of heads.now) (length levels.old.floors) levels.old }
     requires long { length walk.old.marks ≡ length heads.now }
     requires at { at < length walk.old.met }
-    requires met { (n : ℕ) → Contains (numbers_met heads.now walk.old) n → (over ≡ n) ⊎ DependsOn (patches_of heads.now) over n }
+    requires met { (n : ℕ) → Contains (numbers_met heads.now walk.old) n → (top.number ≡ n) ⊎ DependsOn (patches_of heads.now) top.number n }
     ensures leveled { IsLeveled (patches_of heads.now) (length levels.old.floors) levels.new }
     ensures levels { (length levels.new.ranks ≡ length levels.old.ranks) × (levels.new.room ≡ levels.old.room) }
     ensures long { length walk.new.marks ≡ length heads.now }
     ensures room { walk.new.room ≡ walk.old.room }
-    ensures met { (n : ℕ) → Contains (numbers_met heads.now walk.new) n → (over ≡ n) ⊎ DependsOn (patches_of heads.now) over n }
+    ensures met { (n : ℕ) → Contains (numbers_met heads.now walk.new) n → (top.number ≡ n) ⊎ DependsOn (patches_of heads.now) top.number n }
 {
     let head = &heads[walk.index_at(at)];
     for number in head.dependencies.as_slice() {
-        keep_over(levels, heads, walk, block, over, *number);
+        keep_over(levels, heads, walk, top, *number);
     }
 }
 
-/// Keeps the change with the number, if it is hard, as the one over what lies below it, as far as changes of its block lead down
-/// to that. What was met before does not matter.
-pub fn keep_under(levels: &mut Levels, heads: &[Head], walk: &mut Walk, over: u32)
+/// Keeps the change with the number, if it is hard, as the one over what lies below it, as far as no change of another block
+/// lies between. What was met before does not matter.
+pub fn keep_under(levels: &mut Levels, heads: &[Head], walk: &mut Walk, number: u32)
     requires rising { IsRising heads.now }
     requires leveled { IsLeveled (patches_of heads.now) (length levels.old.floors) levels.old }
     requires long { length walk.old.marks ≡ length heads.now }
@@ -122,16 +125,21 @@ pub fn keep_under(levels: &mut Levels, heads: &[Head], walk: &mut Walk, over: u3
     ensures room { walk.new.room ≡ walk.old.room }
 {
     walk.clear();
-    let Some(index) = levels.find(heads, over) else {
+    let Some(index) = levels.find(heads, number) else {
         return;
     };
     let Kind::Change(Grade::Hard, block, _) = heads[index].kind else {
         return;
     };
     walk.meet(index);
+    let top = Top {
+        number,
+        block: u32::from(block),
+        level: levels.level(index),
+    };
     let mut at = 0;
     while at < walk.len() {
-        keep_below(levels, heads, walk, u32::from(block), over, at);
+        keep_below(levels, heads, walk, top, at);
         at += 1;
     }
 }

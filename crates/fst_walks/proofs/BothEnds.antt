@@ -17,9 +17,9 @@ leads_led E start s n c (inl e) = inl (subst (Contains start) e c)
 leads_led E start s n c (inr path) = inr (s, c, path)
 
 -- what a way down to the first changes of other blocks leads to, it depends on
-pub away_depends : (patches : List Patch) (over : ℕ → ℕ) (b p q : ℕ) → Closure (StepsAway patches over b) p q → DependsOn patches p q
-away_depends patches over b p q (one s) = one s.1
-away_depends patches over b p q (join {q = k} c d) = join (away_depends patches over b p k c) (away_depends patches over b k q d)
+pub away_depends : (patches : List Patch) (over level : ℕ → ℕ) (least b p q : ℕ) → Closure (StepsAway patches over level least b) p q → DependsOn patches p q
+away_depends patches over level least b p q (one s) = one s.1
+away_depends patches over level least b p q (join {q = k} c d) = join (away_depends patches over level least b p k c) (away_depends patches over level least b k q d)
 
 -- where b alone is shown as crossed, steps of a walk up are such steps
 module _ (patches : List Patch) (b : ℕ) (crossed : List Bool) (shown : ShowsBlocks crossed (λ c. c ≡ b)) where

@@ -8,8 +8,8 @@ use Rattle.fst_types.proofs.{Crash.same_number, SmallStates.only_in}
 use Rattle.fst_heads.specs.{Grading.{HasUnder, LeadsNowhere, IsHardNumber}, Heads.{IsRising as AreRising, patches_of}, Indices.PassesAt}
 use Rattle.fst_heads.specs.{Reaching.{ShowsBlocks}, Tests.passes, declared.head.Head.Head}
 use Rattle.fst_heads.proofs.{Listing.rising_patches}
-use Rattle.fst_walks.specs.{BothEnds.{AreApart, ComesTo, EndApart, IsFirstAway, IsLowChange, LeadTogether, StepsAway, StepsHigh, StepsLow, StepsTo}, Descending.{IsLedFrom, Visits}}
-use Rattle.fst_levels.specs.{Leveling.AreLeveled, Ancestors.AreUnder, Needing.AreNeeded, WayBack.{IsKeptUnder, IsUnderHard, LeadsBack, StepsUp}}
+use Rattle.fst_walks.specs.{BothEnds.{AreApart, ComesTo, EndApart, IsFirstAway, IsHigh, IsLowChange, LeadTogether, StepsAway, StepsHigh, StepsLow, StepsTo}, Descending.{IsLedFrom, Visits}}
+use Rattle.fst_levels.specs.{Leveling.AreLeveled, Ancestors.AreUnder, Needing.AreNeeded, WayBack.{IsKeptUnder, IsUnderHard, LeadsBack, StepsBack, StepsUp}}
 use Rattle.fst_levels.proofs.{KeptOver.kept_is_under, NoWayBack.{Leads, leads_on, goes_up, back_leads, none_leads, off_live}, ComesBack.{live_number, off_not_on}, Holding.live_up, NearRow.rests_may, Trails.none_in}
 use Rattle.fst_walks.proofs.{BothEnds.{away_depends, led_leads, leads_led, backs_up, ups_back}, Needed.{StepsDown, StepsWhole, steps_whole, whole_met}}
 use Rattle.fst_heads.specs.declared.test.Test.TheVariants as test
@@ -22,7 +22,8 @@ passes_or patches rising t p n head numbered = elim (cases_Bool (passes t p)) [
 ]
 
 -- the way down from what depends on a live change of another block, from which a way leads back to b, leads to a first one
-module _ (heads : List Head) (rising : AreRising heads) (disk : IsOnDiskWithAll (patches_of heads)) (hard : HardNeverHold (patches_of heads)) (over : ℕ → ℕ) (kept : AreUnder (patches_of heads) over) (b : ℕ) where
+module _ (heads : List Head) (rising : AreRising heads) (disk : IsOnDiskWithAll (patches_of heads)) (hard : HardNeverHold (patches_of heads))
+    (level floor : ℕ → ℕ) (leveled : AreLeveled (patches_of heads) level floor) (over : ℕ → ℕ) (kept : AreUnder (patches_of heads) over) (b least : ℕ) (low : least ≤ floor b) where
   abbrev patches : List Patch
   patches = patches_of heads
 
@@ -55,70 +56,87 @@ module _ (heads : List Head) (rising : AreRising heads) (disk : IsOnDiskWithAll 
   record HasFirst (m n : ℕ) : Type 0 where
     found : ℕ
     away : PassesAt (test.LiveOff b) patches found
-    path : Leads (StepsAway patches over b) m found
+    path : Leads (StepsAway patches over level least b) m found
     above : DependsOn patches found n
 
-  goes_down : (m n : ℕ) → DependsOn patches m n → IsLiveNumber patches n → ReturnsFrom n → HasFirst m n ⊎ Closure (StepsAway patches over b) m n
-  goes_down m n (one d) live back = elim (passes_or patches (rising_patches heads rising) (test.LiveOff b) d.patch m d.head d.numbered) [
+  -- what a patch depends on is no higher
+  falls : (p q : ℕ) → DependsOn patches p q → level q ≤ level p
+  falls p q (one d) = leveled.direct p q d
+  falls p q (join {q = k} c d) = let e = falls p k c in let f = falls k q d in omega (arith, e, f)
+
+  -- so what depends on something high is high
+  high_up : (p q : ℕ) → DependsOn patches p q → IsHigh patches level least q → IsHigh patches level least p
+  high_up p q d high = (live_up patches disk p q d high.0, let f = falls p q d in let k = high.1 in omega (arith, f, k))
+
+  goes_down : (m n : ℕ) → DependsOn patches m n → IsHigh patches level least n → ReturnsFrom n → HasFirst m n ⊎ Closure (StepsAway patches over level least b) m n
+  goes_down m n (one d) high back = elim (passes_or patches (rising_patches heads rising) (test.LiveOff b) d.patch m d.head d.numbered) [
     | inl away ↦ inl (record { found = m; away = away; path = inl refl; above = one d })
     | inr own ↦
         let free : IsKeptUnder patches over b m → ⊥ = λ k.
         let under = kept_is_under patches over kept b d.patch d.head (subst (IsKeptUnder patches over b) (sym d.numbered) k) in
         under_returns m (subst (IsUnderHard patches b) d.numbered under) (returns_up m n (one d) back) in
-        inr (one (record { own = own; open_ended = free }, d, live))
+        inr (one (record { own = own; open_ended = free }, d, high))
   ]
-  goes_down m n (join {q = k} c d) live back =
-      let mid = live_up patches disk k n d live in
-      elim (goes_down m k c mid (returns_up k n d back)) [
+  goes_down m n (join {q = k} c d) high back =
+      elim (goes_down m k c (high_up k n d high) (returns_up k n d back)) [
         | inl f ↦ inl (record { found = f.found; away = f.away; path = f.path; above = join f.above d })
-        | inr path ↦ elim (goes_down k n d live back) [
-          | inl f ↦ inl (record { found = f.found; away = f.away; path = leads_on (StepsAway patches over b) m k f.found (inr path) f.path; above = f.above })
+        | inr path ↦ elim (goes_down k n d high back) [
+          | inl f ↦ inl (record { found = f.found; away = f.away; path = leads_on (StepsAway patches over level least b) m k f.found (inr path) f.path; above = f.above })
           | inr more ↦ inr (join path more)
         ]
       ]
 
+  -- no way back falls
+  back_rises : (p q : ℕ) → Closure (StepsBack patches b) p q → level p ≤ level q
+  back_rises p q (one s) = elim s [
+    | inl up ↦ leveled.direct q p up.0
+    | inr k ↦ let first = leveled.hard k.block p k.hard in let last = leveled.change k.block q k.change in omega (arith, first, last)
+  ]
+  back_rises p q (join {q = k} c d) = let e = back_rises p k c in let f = back_rises k q d in omega (arith, e, f)
+
   module _ (crossed : List Bool) (shown : ShowsBlocks crossed (λ c. c ≡ b)) (row : List ℕ) where
     -- where a way leads back from the row, steps lead up from its end to a first one
-    pub first_back : (end : ℕ) → LeadsBack patches b row end → (n : ℕ) × IsFirstAway patches over b row n × Closure (StepsUp patches crossed) end n
+    pub first_back : (end : ℕ) → LeadsBack patches b row end → (n : ℕ) × IsFirstAway patches over level least b row n × Closure (StepsUp patches crossed) end n
     first_back end l =
         let up = rising_patches heads rising in
         let last = l.away in
         let live = off_live patches up disk b last l.off in
+        let high : IsHigh patches level least last = (live, let first = leveled.change b end l.change in let rises = back_rises end last l.path in omega (arith, low, first, rises)) in
         let back : ReturnsFrom last = back_leads patches up disk b (last ∷ []) end (record { away = last; change = l.change; off = l.off; under = (last, Contains-push [] last, inl refl); path = l.path }) in
         let path = backs_up patches b crossed shown end last l.path in
         let u = l.under in
         elim u.2 [
-          | inl e ↦ (last, record { away = l.off; top = u.0; named = u.1; live = subst (IsLiveNumber patches) (sym e) live; path = inl e }, path)
-          | inr low ↦
-              let down = subst (DependsOn patches u.0) low.2 low.1 in
-              let top = live_up patches disk u.0 last down live in
-              elim (goes_down u.0 last down live back) [
-                | inl f ↦ (f.found, record { away = f.away; top = u.0; named = u.1; live = top; path = f.path }, join path (backs_up patches b crossed shown last f.found (goes_up patches disk b f.found last f.above live)))
-                | inr further ↦ (last, record { away = l.off; top = u.0; named = u.1; live = top; path = inr further }, path)
+          | inl e ↦ (last, record { away = l.off; top = u.0; named = u.1; high = subst (IsHigh patches level least) (sym e) high; path = inl e }, path)
+          | inr below ↦
+              let down = subst (DependsOn patches u.0) below.2 below.1 in
+              let top = high_up u.0 last down high in
+              elim (goes_down u.0 last down high back) [
+                | inl f ↦ (f.found, record { away = f.away; top = u.0; named = u.1; high = top; path = f.path }, join path (backs_up patches b crossed shown last f.found (goes_up patches disk b f.found last f.above live)))
+                | inr further ↦ (last, record { away = l.off; top = u.0; named = u.1; high = top; path = inr further }, path)
               ]
         ]
 
 -- a first one is at or below the row
-first_under : (patches : List Patch) (over : ℕ → ℕ) (b : ℕ) (row : List ℕ) (n : ℕ) → IsFirstAway patches over b row n → HasUnder patches row (λ m. m ≡ n)
-first_under patches over b row n f = (f.top, f.named, elim f.path [ inl e ↦ inl e | inr path ↦ inr (n, away_depends patches over b f.top n path, refl) ])
+first_under : (patches : List Patch) (over level : ℕ → ℕ) (least b : ℕ) (row : List ℕ) (n : ℕ) → IsFirstAway patches over level least b row n → HasUnder patches row (λ m. m ≡ n)
+first_under patches over level least b row n f = (f.top, f.named, elim f.path [ inl e ↦ inl e | inr path ↦ inr (n, away_depends patches over level least b f.top n path, refl) ])
 
 -- of what the way down from the row leads to, the changes of other blocks are first ones
-pub first_only : (patches : List Patch) (over : ℕ → ℕ) (b : ℕ) (row start met kept : List ℕ) → Visits (λ n. Contains row n × IsLiveNumber patches n) [] start → ((n : ℕ) → Contains met n → IsLedFrom (StepsAway patches over b) start n)
-    → ((n : ℕ) → Contains kept n ↔ (Contains met n × PassesAt (test.LiveOff b) patches n)) → (n : ℕ) → Contains kept n → IsFirstAway patches over b row n
-first_only patches over b row start met kept starts led keeps n c =
+pub first_only : (patches : List Patch) (over level : ℕ → ℕ) (least b : ℕ) (row start met kept : List ℕ) → Visits (λ n. Contains row n × IsHigh patches level least n) [] start → ((n : ℕ) → Contains met n → IsLedFrom (StepsAway patches over level least b) start n)
+    → ((n : ℕ) → Contains kept n ↔ (Contains met n × PassesAt (test.LiveOff b) patches n)) → (n : ℕ) → Contains kept n → IsFirstAway patches over level least b row n
+first_only patches over level least b row start met kept starts led keeps n c =
     let k = (keeps n).0 c in
-    let s = led_leads (StepsAway patches over b) start n (led n k.0) in
+    let s = led_leads (StepsAway patches over level least b) start n (led n k.0) in
     let top = started s.0 s.1 in
-    record { away = k.1; top = s.0; named = top.0; live = top.1; path = s.2 }
+    record { away = k.1; top = s.0; named = top.0; high = top.1; path = s.2 }
   where
-    started : (m : ℕ) → Contains start m → Contains row m × IsLiveNumber patches m
+    started : (m : ℕ) → Contains start m → Contains row m × IsHigh patches level least m
     started m c = elim (starts.only m c) [ inl none ↦ absurd (none_in m none) | inr k ↦ k ]
 
 -- and they are all of them where all that it leads to was met
-pub first_all : (patches : List Patch) (over : ℕ → ℕ) (b : ℕ) (row start met kept : List ℕ) → Visits (λ n. Contains row n × IsLiveNumber patches n) [] start → ((n : ℕ) → IsLedFrom (StepsAway patches over b) start n → Contains met n)
-    → ((n : ℕ) → Contains kept n ↔ (Contains met n × PassesAt (test.LiveOff b) patches n)) → (n : ℕ) → IsFirstAway patches over b row n → Contains kept n
-first_all patches over b row start met kept starts led keeps n f =
-    (keeps n).1 (led n (leads_led (StepsAway patches over b) start f.top n (starts.each f.top (f.named, f.live)) f.path), f.away)
+pub first_all : (patches : List Patch) (over level : ℕ → ℕ) (least b : ℕ) (row start met kept : List ℕ) → Visits (λ n. Contains row n × IsHigh patches level least n) [] start → ((n : ℕ) → IsLedFrom (StepsAway patches over level least b) start n → Contains met n)
+    → ((n : ℕ) → Contains kept n ↔ (Contains met n × PassesAt (test.LiveOff b) patches n)) → (n : ℕ) → IsFirstAway patches over level least b row n → Contains kept n
+first_all patches over level least b row start met kept starts led keeps n f =
+    (keeps n).1 (led n (leads_led (StepsAway patches over level least b) start f.top n (starts.each f.top (f.named, f.high)) f.path), f.away)
 
 -- no way up falls
 module _ (patches : List Patch) (level floor : ℕ → ℕ) (leveled : AreLeveled patches level floor) (crossed : List Bool) where
@@ -232,10 +250,11 @@ module _ (patches : List Patch) (b : ℕ) (up down : List Bool) (shows_up : Show
     leads_downs p q (inr path) live = inr (downs p q path live).0
 
 -- with no first one no way leads back
-pub none_first : (heads : List Head) (rising : AreRising heads) (disk : IsOnDiskWithAll (patches_of heads)) (hard : HardNeverHold (patches_of heads)) (over : ℕ → ℕ) (kept : AreUnder (patches_of heads) over) (b : ℕ) (crossed : List Bool) (shown : ShowsBlocks crossed (λ c. c ≡ b)) (row : List ℕ)
-    → ((n : ℕ) → IsFirstAway (patches_of heads) over b row n → ⊥) → LeadsNowhere (patches_of heads) b row
-none_first heads rising disk hard over kept b crossed shown row none =
-    none_leads (patches_of heads) (rising_patches heads rising) disk b row (λ end l. let f = first_back heads rising disk hard over kept b crossed shown row end l in none f.0 f.1)
+pub none_first : (heads : List Head) (rising : AreRising heads) (disk : IsOnDiskWithAll (patches_of heads)) (hard : HardNeverHold (patches_of heads)) (level floor : ℕ → ℕ) (leveled : AreLeveled (patches_of heads) level floor)
+    (over : ℕ → ℕ) (kept : AreUnder (patches_of heads) over) (b least : ℕ) (low : least ≤ floor b) (crossed : List Bool) (shown : ShowsBlocks crossed (λ c. c ≡ b)) (row : List ℕ)
+    → ((n : ℕ) → IsFirstAway (patches_of heads) over level least b row n → ⊥) → LeadsNowhere (patches_of heads) b row
+none_first heads rising disk hard level floor leveled over kept b least low crossed shown row none =
+    none_leads (patches_of heads) (rising_patches heads rising) disk b row (λ end l. let f = first_back heads rising disk hard level floor leveled over kept b least low crossed shown row end l in none f.0 f.1)
 
 -- exactly those with P were visited where nothing was before
 pub visited_all : (P : ℕ → Type 0) (queue : List ℕ) → Visits P [] queue → (n : ℕ) → Contains queue n ↔ P n
@@ -244,7 +263,7 @@ visited_all P queue v n = (λ c. elim (v.only n c) [ inl none ↦ absurd (none_i
 -- a walk down starts from first changes of other blocks at or below a row, and never crosses b
 module _ (heads : List Head) (rising : AreRising heads) (disk : IsOnDiskWithAll (patches_of heads)) (hard : HardNeverHold (patches_of heads)) (flights : FlightsStandAlone (patches_of heads))
     (level floor : ℕ → ℕ) (leveled : AreLeveled (patches_of heads) level floor) (needs : ℕ → List ℕ) (needed : AreNeeded (patches_of heads) needs)
-    (over : ℕ → ℕ) (kept : AreUnder (patches_of heads) over) (b least : ℕ) (low : least ≤ floor b) (row : List ℕ) (up down : List Bool) (shows_up : ShowsBlocks up (λ c. c ≡ b)) (shows_down : ShowsBlocks down (λ c. c ≡ b)) (tops : List ℕ) (first : (n : ℕ) → Contains tops n → IsFirstAway (patches_of heads) over b row n) where
+    (over : ℕ → ℕ) (kept : AreUnder (patches_of heads) over) (b least : ℕ) (low : least ≤ floor b) (row : List ℕ) (up down : List Bool) (shows_up : ShowsBlocks up (λ c. c ≡ b)) (shows_down : ShowsBlocks down (λ c. c ≡ b)) (tops : List ℕ) (first : (n : ℕ) → Contains tops n → IsFirstAway (patches_of heads) over level least b row n) where
   abbrev now : List Patch
   now = patches_of heads
 
@@ -267,7 +286,7 @@ module _ (heads : List Head) (rising : AreRising heads) (disk : IsOnDiskWithAll 
         away = top;
         change = change;
         off = away.away;
-        under = first_under now over b row top away;
+        under = first_under now over level least b row top away;
         path = elim (leads_on (StepsUp now up) end n top above (under_up top n c below)) [ inl e ↦ absurd (off_not_on now in_order b top away.away (subst (PassesAt (test.LiveOn b) now) e change)) | inr path ↦ ups_back now b up shows_up end top path ];
       }
 
@@ -278,25 +297,25 @@ module _ (heads : List Head) (rising : AreRising heads) (disk : IsOnDiskWithAll 
       back_from at a.0 at a.1 met.change (wholly a.0 at a.2) (inl refl)
 
   -- where it starts from all of them and comes to none, none does
-  pub comes_hard : ((n : ℕ) → IsFirstAway now over b row n → Contains tops n) → ((at : ℕ) → ComesTo now level least needs down b tops at → ⊥) → LeadsNowhere now b row
+  pub comes_hard : ((n : ℕ) → IsFirstAway now over level least b row n → Contains tops n) → ((at : ℕ) → ComesTo now level least needs down b tops at → ⊥) → LeadsNowhere now b row
   comes_hard each none = none_leads now in_order disk b row (λ end l.
-      let f = first_back heads rising disk hard over kept b up shows_up row end l in
+      let f = first_back heads rising disk hard level floor leveled over kept b least low up shows_up row end l in
       let back = leads_downs now b up down shows_up shows_down in_order end f.0 (inr f.2) (live_number now in_order b b end l.change) in
       let y = whole_met now in_order flights needs needed b down shows_down tops f.0 end (each f.0 f.1) back l.change in
       let over = leveled.change b y.0 y.2 in
       none y.0 (record { under = high_led now level floor leveled needs needed down least tops y.0 y.1 (omega (arith, low, over)); change = y.2 }))
 
 -- the walks start from the low live changes of b and from the first changes of other blocks at or below a row, which are low, and never cross b
-pub record AreEnds (patches : List Patch) (level over : ℕ → ℕ) (most b : ℕ) (row : List ℕ) (up down : List Bool) (bottoms tops : List ℕ) : Type 0 where
+pub record AreEnds (patches : List Patch) (level over : ℕ → ℕ) (most least b : ℕ) (row : List ℕ) (up down : List Bool) (bottoms tops : List ℕ) : Type 0 where
   pub low : (n : ℕ) → Contains tops n → level n ≤ most
   pub shows_up : ShowsBlocks up (λ c. c ≡ b)
   pub shows_down : ShowsBlocks down (λ c. c ≡ b)
   pub changes : (n : ℕ) → Contains bottoms n ↔ IsLowChange patches level most b n
-  pub first : (n : ℕ) → Contains tops n → IsFirstAway patches over b row n
+  pub first : (n : ℕ) → Contains tops n → IsFirstAway patches over level least b row n
 
 module _ (heads : List Head) (rising : AreRising heads) (disk : IsOnDiskWithAll (patches_of heads)) (hard : HardNeverHold (patches_of heads)) (flights : FlightsStandAlone (patches_of heads))
     (level floor : ℕ → ℕ) (leveled : AreLeveled (patches_of heads) level floor) (needs : ℕ → List ℕ) (needed : AreNeeded (patches_of heads) needs)
-    (over : ℕ → ℕ) (kept : AreUnder (patches_of heads) over) (most least b : ℕ) (floored : least ≤ floor b) (row : List ℕ) (up down : List Bool) (bottoms tops : List ℕ) (ends : AreEnds (patches_of heads) level over most b row up down bottoms tops) where
+    (over : ℕ → ℕ) (kept : AreUnder (patches_of heads) over) (most least b : ℕ) (floored : least ≤ floor b) (row : List ℕ) (up down : List Bool) (bottoms tops : List ℕ) (ends : AreEnds (patches_of heads) level over most least b row up down bottoms tops) where
   abbrev all : List Patch
   all = patches_of heads
 
@@ -343,10 +362,10 @@ module _ (heads : List Head) (rising : AreRising heads) (disk : IsOnDiskWithAll 
       (ends.changes n).1 (x, (low_leads all level floor leveled up most n a.0 (down_to a.0 n a.1 a.2) (ends.low a.0 a.1)).0)
 
   -- where they start from all of the first changes, one has met all and nothing was met by both, none does
-  pub apart_hard : ((n : ℕ) → IsFirstAway all over b row n → Contains tops n) → (above below : List ℕ) → EndApart all level needs most least up down bottoms tops above below → LeadsNowhere all b row
+  pub apart_hard : ((n : ℕ) → IsFirstAway all over level least b row n → Contains tops n) → (above below : List ℕ) → EndApart all level needs most least up down bottoms tops above below → LeadsNowhere all b row
   apart_hard from_all above below met = elim met.ended [
     | inl each ↦ none_leads all ordered disk b row (λ end l.
-        let f = first_back heads rising disk hard over kept b up ends.shows_up row end l in
+        let f = first_back heads rising disk hard level floor leveled over kept b least floored up ends.shows_up row end l in
         let n = f.0 in
         let top = from_all n f.1 in
         let path = low_leads all level floor leveled up most end n (inr f.2) (ends.low n top) in

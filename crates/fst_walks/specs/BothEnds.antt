@@ -6,22 +6,26 @@ use Rattle.fst_walks.specs.{Descending.IsLedFrom, declared.block_walk.BlockWalk.
 use Rattle.fst_levels.specs.WayBack.{Crosses, IsKeptUnder}
 use Rattle.fst_heads.specs.declared.test.Test.TheVariants as test
 
+-- n is not on disk, and no lower than `least`
+abbrev pub IsHigh : List Patch → (ℕ → ℕ) → ℕ → ℕ → Type 0
+IsHigh patches level least n = IsLiveNumber patches n × (least ≤ level n)
+
 -- the way down to the first changes of other blocks goes through p: it is none, nor kept as a hard change of b in memory or below one, from where nothing leads back to b
 pub record GoesThrough (patches : List Patch) (over : ℕ → ℕ) (b p : ℕ) : Type 0 where
   pub own : PassesAt (test.LiveOff b) patches p → ⊥
   pub open_ended : IsKeptUnder patches over b p → ⊥
 
--- a step of that way: to a direct dependency that is not on disk
-abbrev pub StepsAway : List Patch → (ℕ → ℕ) → ℕ → ℕ → ℕ → Type 0
-StepsAway patches over b p q = GoesThrough patches over b p × DirectlyOn patches p q × IsLiveNumber patches q
+-- a step of that way: to a direct dependency that is not on disk, and no lower than `least`
+abbrev pub StepsAway : List Patch → (ℕ → ℕ) → (ℕ → ℕ) → ℕ → ℕ → ℕ → ℕ → Type 0
+StepsAway patches over level least b p q = GoesThrough patches over b p × DirectlyOn patches p q × IsHigh patches level least q
 
--- n is a change of another block, not on disk, and in the row, or that way leads from one of the row to it
-pub record IsFirstAway (patches : List Patch) (over : ℕ → ℕ) (b : ℕ) (row : List ℕ) (n : ℕ) : Type 0 where
+-- n is a change of another block, not on disk, no lower than `least`, and in the row, or that way leads from one of the row to it
+pub record IsFirstAway (patches : List Patch) (over level : ℕ → ℕ) (least b : ℕ) (row : List ℕ) (n : ℕ) : Type 0 where
   pub away : PassesAt (test.LiveOff b) patches n
   pub top : ℕ
   pub named : Contains row top
-  pub live : IsLiveNumber patches top
-  pub path : (top ≡ n) ⊎ Closure (StepsAway patches over b) top n
+  pub high : IsHigh patches level least top
+  pub path : (top ≡ n) ⊎ Closure (StepsAway patches over level least b) top n
 
 -- q is not on disk, and is kept as needed by block c
 abbrev pub IsNeed : List Patch → (ℕ → List ℕ) → ℕ → ℕ → Type 0
@@ -33,10 +37,6 @@ pub record CrossesDown (patches : List Patch) (needs : ℕ → List ℕ) (crosse
   pub change : PassesAt (test.LiveOn block) patches p
   pub fresh : IsReached crossed block → ⊥
   pub need : IsNeed patches needs block q
-
--- n is not on disk, and no lower than `least`
-abbrev pub IsHigh : List Patch → (ℕ → ℕ) → ℕ → ℕ → Type 0
-IsHigh patches level least n = IsLiveNumber patches n × (least ≤ level n)
 
 -- n is a need of block c, and no lower than `least`
 abbrev pub IsHighNeed : List Patch → (ℕ → ℕ) → ℕ → (ℕ → List ℕ) → ℕ → ℕ → Type 0

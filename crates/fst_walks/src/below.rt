@@ -138,8 +138,8 @@ pub fn grade_below(
     down.cross_only(block);
     let most = most_looks(sight.lists[block as usize].len());
     let few = most.min(FEW);
-    let looked = visit_first_away(sight, &mut down.walk, block, row, few);
     let least = sight.levels.floor(block);
+    let looked = visit_first_away(sight, &mut down.walk, block, row, least, few);
     let met = descend(sight, down, block, least, most)?;
     if met.is_some() {
         return Some(soft(met));

@@ -197,13 +197,13 @@ fn grade_within(
     ensures down { IsOver sight.now.heads.now (length sight.now.lists.now) ends.new.down }
 {
     ends.down.cross_only(block);
-    let looked = visit_first_away(sight, &mut ends.down.walk, block, row, limit);
+    // No way up falls, so none goes through what is lower than the floor, nor to what is met now through what is higher than that.
+    let least = sight.levels.floor(block);
+    let looked = visit_first_away(sight, &mut ends.down.walk, block, row, least, limit);
     if looked <= limit && ends.down.walk.len() == 0 {
         return Some(hard_after(looked));
     }
-    // No way up falls, so none to what is met now goes through what is higher, nor through what is lower than the floor.
     let most = highest(sight, &ends.down.walk);
-    let least = sight.levels.floor(block);
     ends.up.cross_only(block);
     ends.up.walk.clear();
     visit_low_changes(sight, &mut ends.up.walk, block, most);

@@ -1,4 +1,4 @@
-//! What is kept of a head beside its level: its ancestry, and a hard change of its block over it.
+//! What is kept of a head beside its level: its ancestry, and a hard change over it.
 
 ghost use Rattle.std.specs.Prelude.{◌≡◌, ◌≢◌, ◌<◌, ℕ, AllPairs, length, map, slice_index_or};
 ghost use Rattle.fst_types.specs.Dependencies.{DependsOn};

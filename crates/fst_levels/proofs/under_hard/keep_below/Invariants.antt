@@ -11,5 +11,5 @@ invariant-loop-number l = record {
   places : l.levels.room ≡ l.initial.levels.room;
   long : length l.walk.marks ≡ length l.heads;
   room : l.walk.room ≡ l.initial.walk.room;
-  below : (n : ℕ) → Contains (numbers_met l.heads l.walk) n → (l.over ≡ n) ⊎ DependsOn (patches_of l.heads) l.over n;
+  below : (n : ℕ) → Contains (numbers_met l.heads l.walk) n → (l.top.number ≡ n) ⊎ DependsOn (patches_of l.heads) l.top.number n;
 }

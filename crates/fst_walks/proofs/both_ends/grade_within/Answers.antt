@@ -10,7 +10,7 @@ use Rattle.fst_walks.proofs.both_ends.grade_within.Goals as goal
 
 -- the two walks start as they should
 starts : (c : After-visit_low_changes)
-    → AreEnds (patches_of c.args.sight.now.heads.now) (level_of c.args.sight.now.levels.now.ranks) (hard_over_of c.args.sight.now.levels.now.ranks) c.highest-most.result c.args.block c.args.row.now c.cross_only-2.new.self.crossed.items c.cross_only.new.self.crossed.items
+    → AreEnds (patches_of c.args.sight.now.heads.now) (level_of c.args.sight.now.levels.now.ranks) (hard_over_of c.args.sight.now.levels.now.ranks) c.highest-most.result c.floor-least.result c.args.block c.args.row.now c.cross_only-2.new.self.crossed.items c.cross_only.new.self.crossed.items
     (numbers_met c.args.sight.now.heads.now c.visit_low_changes.new.walk) (numbers_met c.args.sight.now.heads.now c.visit_first_away-looked.new.walk)
 starts c =
     let sight = c.args.sight.now in
@@ -75,4 +75,4 @@ returns-then-len-eq0-clause-told c =
     let sees = c.requires.sees in
     let none : (n : ℕ) → Contains (numbers_met heads c.visit_first_away-looked.new.walk) n → ⊥ = λ n k. absurd (omega (arith, k.1, long_met heads c.visit_first_away-looked.new.walk, c.len.ensures.long, c.if-len-eq0.true)) in
     told_hard (patches_of heads) c.args.block c.args.row.now (LeadsNowhere (patches_of heads) c.args.block c.args.row.now) c.hard_after.result c.hard_after.ensures.grade c.hard_after.ensures.end
-    (none_first heads sees.rising sees.disk sees.hard (hard_over_of c.args.sight.now.levels.now.ranks) sees.leveled.overs c.args.block c.cross_only.new.self.crossed.items c.cross_only.ensures.shown c.args.row.now (λ n f. none n (c.visit_first_away-looked.ensures.all (omega (arith, c.if-looked-limit.true)) n f)))
+    (none_first heads sees.rising sees.disk sees.hard (level_of c.args.sight.now.levels.now.ranks) (floor_of c.args.sight.now.levels.now.floors) sees.leveled.leveled (hard_over_of c.args.sight.now.levels.now.ranks) sees.leveled.overs c.args.block c.floor-least.result (omega (arith, c.floor-least.ensures)) c.cross_only.new.self.crossed.items c.cross_only.ensures.shown c.args.row.now (λ n f. none n (c.visit_first_away-looked.ensures.all (omega (arith, c.if-looked-limit.true)) n f)))
