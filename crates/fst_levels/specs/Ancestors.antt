@@ -23,6 +23,10 @@ pub record GoesUnder (patches : List Patch) (n : ℕ) (row : List ℕ) (ancestry
 abbrev pub AreUnder : List Patch → (ℕ → ℕ) → Type 0
 AreUnder patches over = (p : Patch) → Contains patches p → over p.number ≢ 0 → DependsOn patches (over p.number) p.number
 
+-- each of them is n or lies below it
+abbrev pub LieUnder : List Patch → ℕ → List ℕ → Type 0
+LieUnder patches n met = (m : ℕ) → Contains met m → (n ≡ m) ⊎ DependsOn patches n m
+
 -- n is p, or p depends on it, unless n is forgotten
 abbrev pub LeadsTo : List Patch → ℕ → ℕ → Type 0
 LeadsTo patches p n = (q : Patch) → Contains patches q → q.number ≡ n → (p ≡ n) ⊎ DependsOn patches p n

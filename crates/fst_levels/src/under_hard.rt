@@ -7,10 +7,11 @@
 //! blocks only one of them has hard changes. No other call has to look after what is kept: as long as a patch is not on disk,
 //! neither is what depends on it; and hard changes of a block go into one write, with what lies below them.
 
-ghost use Rattle.std.specs.Prelude.{◌≡◌, ◌<◌, ◌↔◌, ◌⊎◌, ℕ, IsTrue, Contains, length, map};
+ghost use Rattle.std.specs.Prelude.{◌≡◌, ◌<◌, ◌↔◌, ℕ, IsTrue, length, map};
 ghost use Rattle.fst_types.specs.Dependencies.{DependsOn};
 ghost use Rattle.fst_heads.specs.Heads.{IsRising, patches_of};
 ghost use Rattle.fst_heads.specs.Indices.{HasIndex};
+ghost use Rattle.fst_levels.specs.Ancestors.{LieUnder};
 ghost use Rattle.fst_levels.specs.Leveling.{IsLeveled, hard_over_of};
 ghost use Rattle.fst_levels.specs.Sights.{Sees};
 ghost use Rattle.fst_levels.specs.Walks.{numbers_met};
@@ -45,7 +46,7 @@ pub fn is_under_hard(levels: &Levels, heads: &[Head], block: u32, index: usize) 
 }
 
 /// Whether the patch with the number is a hard change of the block in memory, or known to be below one.
-pub fn is_known_under(sight: &Sight<'_>, block: u32, number: u32) -> bool
+pub(crate) fn is_known_under(sight: &Sight<'_>, block: u32, number: u32) -> bool
     requires { Sees sight.now }
     ensures { IsTrue result → IsUnderHard (patches_of sight.now.heads.now) block number }
 {
@@ -70,12 +71,12 @@ fn keep_over(levels: &mut Levels, heads: &[Head], walk: &mut Walk, top: Top, num
     requires leveled { IsLeveled (patches_of heads.now) (length levels.old.floors) levels.old }
     requires long { length walk.old.marks ≡ length heads.now }
     requires below { DependsOn (patches_of heads.now) top.number number }
-    requires met { (n : ℕ) → Contains (numbers_met heads.now walk.old) n → (top.number ≡ n) ⊎ DependsOn (patches_of heads.now) top.number n }
+    requires met { LieUnder (patches_of heads.now) top.number (numbers_met heads.now walk.old) }
     ensures leveled { IsLeveled (patches_of heads.now) (length levels.old.floors) levels.new }
     ensures levels { (length levels.new.ranks ≡ length levels.old.ranks) × (levels.new.room ≡ levels.old.room) }
     ensures long { length walk.new.marks ≡ length heads.now }
     ensures room { walk.new.room ≡ walk.old.room }
-    ensures met { (n : ℕ) → Contains (numbers_met heads.now walk.new) n → (top.number ≡ n) ⊎ DependsOn (patches_of heads.now) top.number n }
+    ensures met { LieUnder (patches_of heads.now) top.number (numbers_met heads.now walk.new) }
 {
     let Some(index) = levels.find(heads, number) else {
         return;
@@ -100,12 +101,12 @@ fn keep_below(levels: &mut Levels, heads: &[Head], walk: &mut Walk, top: Top, at
     requires leveled { IsLeveled (patches_of heads.now) (length levels.old.floors) levels.old }
     requires long { length walk.old.marks ≡ length heads.now }
     requires at { at < length walk.old.met }
-    requires met { (n : ℕ) → Contains (numbers_met heads.now walk.old) n → (top.number ≡ n) ⊎ DependsOn (patches_of heads.now) top.number n }
+    requires met { LieUnder (patches_of heads.now) top.number (numbers_met heads.now walk.old) }
     ensures leveled { IsLeveled (patches_of heads.now) (length levels.old.floors) levels.new }
     ensures levels { (length levels.new.ranks ≡ length levels.old.ranks) × (levels.new.room ≡ levels.old.room) }
     ensures long { length walk.new.marks ≡ length heads.now }
     ensures room { walk.new.room ≡ walk.old.room }
-    ensures met { (n : ℕ) → Contains (numbers_met heads.now walk.new) n → (top.number ≡ n) ⊎ DependsOn (patches_of heads.now) top.number n }
+    ensures met { LieUnder (patches_of heads.now) top.number (numbers_met heads.now walk.new) }
 {
     let head = &heads[walk.index_at(at)];
     for number in head.dependencies.as_slice() {

@@ -1,7 +1,6 @@
-use Rattle.std.proofs.Common.{◌≡◌, ◌⊎◌, ℕ, Contains, length}
-use Rattle.fst_types.specs.Dependencies.{DependsOn}
+use Rattle.std.proofs.Common.{◌≡◌, length}
 use Rattle.fst_heads.specs.Heads.{patches_of}
-use Rattle.fst_levels.specs.{Leveling.IsLeveled, Walks.numbers_met}
+use Rattle.fst_levels.specs.{Ancestors.LieUnder, Leveling.IsLeveled, Walks.numbers_met}
 use Rattle.fst_levels.proofs.under_hard.keep_below.Given as goal
 
 abbrev pub invariant-loop-number : goal.invariant-loop-number
@@ -11,5 +10,5 @@ invariant-loop-number l = record {
   places : l.levels.room ≡ l.initial.levels.room;
   long : length l.walk.marks ≡ length l.heads;
   room : l.walk.room ≡ l.initial.walk.room;
-  below : (n : ℕ) → Contains (numbers_met l.heads l.walk) n → (l.top.number ≡ n) ⊎ DependsOn (patches_of l.heads) l.top.number n;
+  below : LieUnder (patches_of l.heads) l.top.number (numbers_met l.heads l.walk);
 }

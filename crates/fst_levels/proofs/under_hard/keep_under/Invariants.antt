@@ -1,7 +1,6 @@
-use Rattle.std.proofs.Common.{◌≡◌, ◌⊎◌, ◌-◌, ℕ, Contains, length}
-use Rattle.fst_types.specs.Dependencies.{DependsOn}
+use Rattle.std.proofs.Common.{◌≡◌, ◌-◌, length}
 use Rattle.fst_heads.specs.Heads.{patches_of}
-use Rattle.fst_levels.specs.{Leveling.IsLeveled, Walks.numbers_met}
+use Rattle.fst_levels.specs.{Ancestors.LieUnder, Leveling.IsLeveled, Walks.numbers_met}
 use Rattle.fst_levels.proofs.under_hard.keep_under.Given as goal
 
 abbrev pub invariant-loop-at : goal.invariant-loop-at
@@ -11,7 +10,7 @@ invariant-loop-at l = record {
   places : l.levels.room ≡ l.initial.levels.room;
   long : length l.walk.marks ≡ length l.heads;
   room : l.walk.room ≡ l.initial.walk.room;
-  below : (n : ℕ) → Contains (numbers_met l.heads l.walk) n → (l.top.number ≡ n) ⊎ DependsOn (patches_of l.heads) l.top.number n;
+  below : LieUnder (patches_of l.heads) l.top.number (numbers_met l.heads l.walk);
 }
 
 abbrev pub decreases-loop-at : goal.decreases-loop-at
