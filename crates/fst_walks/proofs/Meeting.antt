@@ -75,7 +75,7 @@ module _ (heads : List Head) (rising : AreRising heads) (disk : IsOnDiskWithAll 
         let free : IsKeptUnder patches over b m → ⊥ = λ k.
         let under = kept_is_under patches over kept b d.patch d.head (subst (IsKeptUnder patches over b) (sym d.numbered) k) in
         under_returns m (subst (IsUnderHard patches b) d.numbered under) (returns_up m n (one d) back) in
-        inr (one (record { own = own; open_ended = free }, d, high))
+        inr (one (record { own = own; free = free }, d, high))
   ]
   goes_down m n (join {q = k} c d) high back =
       elim (goes_down m k c (high_up k n d high) (returns_up k n d back)) [

@@ -13,7 +13,7 @@ IsHigh patches level least n = IsLiveNumber patches n × (least ≤ level n)
 -- the way down to the first changes of other blocks goes through p: it is none, nor kept as a hard change of b in memory or below one, from where nothing leads back to b
 pub record GoesThrough (patches : List Patch) (over : ℕ → ℕ) (b p : ℕ) : Type 0 where
   pub own : PassesAt (test.LiveOff b) patches p → ⊥
-  pub open_ended : IsKeptUnder patches over b p → ⊥
+  pub free : IsKeptUnder patches over b p → ⊥
 
 -- a step of that way: to a direct dependency that is not on disk, and no lower than `least`
 abbrev pub StepsAway : List Patch → (ℕ → ℕ) → (ℕ → ℕ) → ℕ → ℕ → ℕ → ℕ → Type 0

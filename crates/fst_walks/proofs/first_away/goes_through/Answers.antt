@@ -10,10 +10,10 @@ returns-then-not-passes c n index =
     let under = c.is_under_hard.ensures n index in (
       λ e. record {
         own = λ x. false≢true (sym c.if-not-passes.true ∙ (c.passes.ensures ∙ off x));
-        open_ended = λ k. false≢true (sym (not-true c.is_under_hard.result e) ∙ under.1 k);
+        free = λ k. false≢true (sym (not-true c.is_under_hard.result e) ∙ under.1 k);
       },
       λ g. elim (cases_Bool c.is_under_hard.result) [
-        | inl kept ↦ absurd (g.open_ended (under.0 kept))
+        | inl kept ↦ absurd (g.free (under.0 kept))
         | inr free ↦ ap not free
       ],
     )
