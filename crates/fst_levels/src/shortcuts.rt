@@ -41,14 +41,11 @@ pub fn passes_at(sight: &Sight<'_>, test: Test, number: u32) -> bool
 }
 
 /// Whether an open gate is in the row or below it.
-pub fn waits_for_gate(heads: &[Head], row: &[u32]) -> bool
-    requires rising { IsRising heads.now }
-    requires acyclic { IsAcyclic (DirectlyOn (patches_of heads.now)) }
-    requires disk { IsOnDiskWithAll (patches_of heads.now) }
-    requires settled { (blocks : ℕ) × AreSettled (nodes_of heads.now) blocks }
-    ensures { IsTrue result ↔ HasUnder (patches_of heads.now) row.now (IsOpenNumber (patches_of heads.now)) }
+pub fn waits_for_gate(sight: &Sight<'_>, row: &[u32]) -> bool
+    requires { Sees sight.now }
+    ensures { IsTrue result ↔ HasUnder (patches_of sight.now.heads.now) row.now (IsOpenNumber (patches_of sight.now.heads.now)) }
 {
-    is_pending(row_pending(heads, row), Pending::Held)
+    is_pending(row_pending(sight.heads, row), Pending::Held)
 }
 
 /// Whether that is nothing, or changes of the block alone.

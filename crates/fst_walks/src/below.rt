@@ -43,14 +43,14 @@ fn most_looks(changes: usize) -> usize {
 }
 
 // The first change of the block that the walk met at that turn or later.
-fn meets_change(heads: &[Head], walk: &Walk, from: usize, block: u32) -> Option<u32>
-    requires walk { length walk.now.marks ≡ length heads.now }
-    requires rising { IsRising heads.now }
-    ensures met { IfSome result (λ n. Contains (numbers_met heads.now walk.now) n × PassesAt (test.LiveOn block) (patches_of heads.now) n) }
-    ensures none { IfNone result ((at : ℕ) → from ≤ at → at < length walk.now.met → PassesAt (test.LiveOn block) (patches_of heads.now) (slice_index_or (numbers_met heads.now walk.now) at 0) → ⊥) }
+fn meets_change(sight: &Sight<'_>, walk: &Walk, from: usize, block: u32) -> Option<u32>
+    requires sees { Sees sight.now }
+    requires walk { length walk.now.marks ≡ length sight.now.heads.now }
+    ensures met { IfSome result (λ n. Contains (numbers_met sight.now.heads.now walk.now) n × PassesAt (test.LiveOn block) (patches_of sight.now.heads.now) n) }
+    ensures none { IfNone result ((at : ℕ) → from ≤ at → at < length walk.now.met → PassesAt (test.LiveOn block) (patches_of sight.now.heads.now) (slice_index_or (numbers_met sight.now.heads.now walk.now) at 0) → ⊥) }
 {
     for at in from..walk.len() {
-        let head = &heads[walk.index_at(at)];
+        let head = &sight.heads[walk.index_at(at)];
         if passes(Test::LiveOn(block), head) {
             return Some(head.number);
         }
@@ -81,7 +81,7 @@ fn turn(
 {
     let from = down.walk.len();
     let looked = step_down(sight, &mut down.walk, &mut down.crossed, at, least);
-    (meets_change(sight.heads, &down.walk, from, block), looked)
+    (meets_change(sight, &down.walk, from, block), looked)
 }
 
 // Takes steps down, through what is no lower than `least`, until a change of the block was met, which it answers, or the

@@ -65,7 +65,7 @@ fn turn_up(
     let from = ends.up.walk.len();
     let more = step_up(sight, &mut ends.up.walk, &mut ends.up.crossed, at, most);
     looked.up = looked.up.saturating_add(more);
-    meets(sight.heads, &ends.up.walk, &ends.down.walk, from)
+    meets(sight, &ends.up.walk, &ends.down.walk, from)
 }
 
 // A step of the walk down from what it met there in turn. Answers the index of what it met that the walk up has met too.
@@ -99,7 +99,7 @@ fn turn_down(
         least,
     );
     looked.down = looked.down.saturating_add(more);
-    meets(sight.heads, &ends.down.walk, &ends.up.walk, from)
+    meets(sight, &ends.down.walk, &ends.up.walk, from)
 }
 
 // At which turn a walk is looked at from its end: the one before `deep`, or the last where all from there on was looked at

@@ -23,7 +23,6 @@ ghost use Rattle.fst_levels.specs.Walks.{numbers_met};
 use crate::ends::{Ends, Looked, meets};
 use crate::starts::{Starts, visit_starts};
 use fst_heads::head::Head;
-use fst_heads::index::index_of;
 use fst_heads::pending::{Pending, is_pending};
 use fst_heads::row::pending_at;
 use fst_levels::ancestors::names_lead_to;
@@ -32,102 +31,94 @@ use fst_levels::walk::Walk;
 use fst_types::PatchNo;
 
 /// Visits the patch with the number if it waits for an open gate.
-pub(crate) fn visit_held(heads: &[Head], walk: &mut Walk, number: u32)
-    requires rising { IsRising heads.now }
-    requires visited { Visited heads.now walk.old }
-    requires gates { TellsGates heads.now }
-    ensures visited { Visited heads.now walk.new }
-    ensures visits { Visits (λ n. (n ≡ number) × (pending_in (nodes_of heads.now) n ≡ pending.Held)) (numbers_met heads.now walk.old) (numbers_met heads.now walk.new) }
+pub(crate) fn visit_held(sight: &Sight<'_>, walk: &mut Walk, number: u32)
+    requires sees { Sees sight.now }
+    requires visited { Visited sight.now.heads.now walk.old }
+    ensures visited { Visited sight.now.heads.now walk.new }
+    ensures visits { Visits (λ n. (n ≡ number) × (pending_in (nodes_of sight.now.heads.now) n ≡ pending.Held)) (numbers_met sight.now.heads.now walk.old) (numbers_met sight.now.heads.now walk.new) }
 {
-    if let Some(index) = index_of(heads, number) {
-        if is_pending(heads[index].pending, Pending::Held) {
+    if let Some(index) = sight.levels.find(sight.heads, number) {
+        if is_pending(sight.heads[index].pending, Pending::Held) {
             walk.meet(index);
         }
     }
 }
 
 /// Visits those of the row that wait for an open gate.
-pub(crate) fn visit_row(heads: &[Head], walk: &mut Walk, row: &[u32])
-    requires rising { IsRising heads.now }
-    requires visited { Visited heads.now walk.old }
-    requires gates { TellsGates heads.now }
-    ensures visited { Visited heads.now walk.new }
-    ensures visits { Visits (λ n. Contains row.now n × (pending_in (nodes_of heads.now) n ≡ pending.Held)) (numbers_met heads.now walk.old) (numbers_met heads.now walk.new) }
+pub(crate) fn visit_row(sight: &Sight<'_>, walk: &mut Walk, row: &[u32])
+    requires sees { Sees sight.now }
+    requires visited { Visited sight.now.heads.now walk.old }
+    ensures visited { Visited sight.now.heads.now walk.new }
+    ensures visits { Visits (λ n. Contains row.now n × (pending_in (nodes_of sight.now.heads.now) n ≡ pending.Held)) (numbers_met sight.now.heads.now walk.old) (numbers_met sight.now.heads.now walk.new) }
 {
     for number in row {
-        visit_held(heads, walk, *number);
+        visit_held(sight, walk, *number);
     }
 }
 
 // Visits those that directly depend on what the walk met there in turn and wait for an open gate. Answers how many it looked
 // at.
-fn step_above(heads: &[Head], walk: &mut Walk, at: usize) -> usize
-    requires rising { IsRising heads.now }
-    requires visited { Visited heads.now walk.old }
-    requires linked { AreLinked (nodes_of heads.now) }
-    requires gates { TellsGates heads.now }
+fn step_above(sight: &Sight<'_>, walk: &mut Walk, at: usize) -> usize
+    requires sees { Sees sight.now }
+    requires visited { Visited sight.now.heads.now walk.old }
     requires at { at < length walk.old.met }
-    ensures visited { Visited heads.now walk.new }
-    ensures visits { Visits (IsNextAbove (patches_of heads.now) (pending_in (nodes_of heads.now)) (slice_index_or (numbers_met heads.now walk.old) at 0)) (numbers_met heads.now walk.old) (numbers_met heads.now walk.new) }
+    ensures visited { Visited sight.now.heads.now walk.new }
+    ensures visits { Visits (IsNextAbove (patches_of sight.now.heads.now) (pending_in (nodes_of sight.now.heads.now)) (slice_index_or (numbers_met sight.now.heads.now walk.old) at 0)) (numbers_met sight.now.heads.now walk.old) (numbers_met sight.now.heads.now walk.new) }
 {
     let index = walk.index_at(at);
-    let row = heads[index].dependants.as_slice();
-    visit_row(heads, walk, row);
+    let row = sight.heads[index].dependants.as_slice();
+    visit_row(sight, walk, row);
     row.len()
 }
 
 // Visits those that it directly depends on and that wait for an open gate. Answers how many it looked at.
-fn step_held(heads: &[Head], walk: &mut Walk, at: usize) -> usize
-    requires rising { IsRising heads.now }
-    requires visited { Visited heads.now walk.old }
-    requires gates { TellsGates heads.now }
+fn step_held(sight: &Sight<'_>, walk: &mut Walk, at: usize) -> usize
+    requires sees { Sees sight.now }
+    requires visited { Visited sight.now.heads.now walk.old }
     requires at { at < length walk.old.met }
-    ensures visited { Visited heads.now walk.new }
-    ensures visits { Visits (IsNextHeld (patches_of heads.now) (pending_in (nodes_of heads.now)) (slice_index_or (numbers_met heads.now walk.old) at 0)) (numbers_met heads.now walk.old) (numbers_met heads.now walk.new) }
+    ensures visited { Visited sight.now.heads.now walk.new }
+    ensures visits { Visits (IsNextHeld (patches_of sight.now.heads.now) (pending_in (nodes_of sight.now.heads.now)) (slice_index_or (numbers_met sight.now.heads.now walk.old) at 0)) (numbers_met sight.now.heads.now walk.old) (numbers_met sight.now.heads.now walk.new) }
 {
     let index = walk.index_at(at);
-    let row = heads[index].dependencies.as_slice();
-    visit_row(heads, walk, row);
+    let row = sight.heads[index].dependencies.as_slice();
+    visit_row(sight, walk, row);
     row.len()
 }
 
 // A step of the walk up from what it met there in turn. Answers whether it met what the walk down has met.
-fn turn_up(heads: &[Head], ends: &mut Ends, at: usize, looked: &mut Looked) -> bool
-    requires rising { IsRising heads.now }
-    requires linked { AreLinked (nodes_of heads.now) }
-    requires gates { TellsGates heads.now }
-    requires apart { WalkApart heads.now ends.old }
+fn turn_up(sight: &Sight<'_>, ends: &mut Ends, at: usize, looked: &mut Looked) -> bool
+    requires sees { Sees sight.now }
+    requires apart { WalkApart sight.now.heads.now ends.old }
     requires at { at < length ends.old.up.walk.met }
-    ensures visits { Visits (IsNextAbove (patches_of heads.now) (pending_in (nodes_of heads.now)) (slice_index_or (numbers_met heads.now ends.old.up.walk) at 0)) (numbers_met heads.now ends.old.up.walk) (numbers_met heads.now ends.new.up.walk) }
-    ensures met { IsTrue result → ((n : ℕ) × Contains (numbers_met heads.now ends.new.up.walk) n × Contains (numbers_met heads.now ends.old.down.walk) n) }
-    ensures apart { result ≡ false → WalkApart heads.now ends.new }
-    ensures over { AreOver heads.now ends.new }
+    ensures visits { Visits (IsNextAbove (patches_of sight.now.heads.now) (pending_in (nodes_of sight.now.heads.now)) (slice_index_or (numbers_met sight.now.heads.now ends.old.up.walk) at 0)) (numbers_met sight.now.heads.now ends.old.up.walk) (numbers_met sight.now.heads.now ends.new.up.walk) }
+    ensures met { IsTrue result → ((n : ℕ) × Contains (numbers_met sight.now.heads.now ends.new.up.walk) n × Contains (numbers_met sight.now.heads.now ends.old.down.walk) n) }
+    ensures apart { result ≡ false → WalkApart sight.now.heads.now ends.new }
+    ensures over { AreOver sight.now.heads.now ends.new }
     ensures down { ends.new.down ≡ ends.old.down }
     ensures crossed { ends.new.up.crossed ≡ ends.old.up.crossed }
 {
     let from = ends.up.walk.len();
-    let more = step_above(heads, &mut ends.up.walk, at);
+    let more = step_above(sight, &mut ends.up.walk, at);
     looked.up = looked.up.saturating_add(more);
-    meets(heads, &ends.up.walk, &ends.down.walk, from).is_some()
+    meets(sight, &ends.up.walk, &ends.down.walk, from).is_some()
 }
 
 // A step of the walk down from what it met there in turn. Answers whether it met what the walk up has met.
-fn turn_down(heads: &[Head], ends: &mut Ends, at: usize, looked: &mut Looked) -> bool
-    requires rising { IsRising heads.now }
-    requires gates { TellsGates heads.now }
-    requires apart { WalkApart heads.now ends.old }
+fn turn_down(sight: &Sight<'_>, ends: &mut Ends, at: usize, looked: &mut Looked) -> bool
+    requires sees { Sees sight.now }
+    requires apart { WalkApart sight.now.heads.now ends.old }
     requires at { at < length ends.old.down.walk.met }
-    ensures visits { Visits (IsNextHeld (patches_of heads.now) (pending_in (nodes_of heads.now)) (slice_index_or (numbers_met heads.now ends.old.down.walk) at 0)) (numbers_met heads.now ends.old.down.walk) (numbers_met heads.now ends.new.down.walk) }
-    ensures met { IsTrue result → ((n : ℕ) × Contains (numbers_met heads.now ends.old.up.walk) n × Contains (numbers_met heads.now ends.new.down.walk) n) }
-    ensures apart { result ≡ false → WalkApart heads.now ends.new }
-    ensures over { AreOver heads.now ends.new }
+    ensures visits { Visits (IsNextHeld (patches_of sight.now.heads.now) (pending_in (nodes_of sight.now.heads.now)) (slice_index_or (numbers_met sight.now.heads.now ends.old.down.walk) at 0)) (numbers_met sight.now.heads.now ends.old.down.walk) (numbers_met sight.now.heads.now ends.new.down.walk) }
+    ensures met { IsTrue result → ((n : ℕ) × Contains (numbers_met sight.now.heads.now ends.old.up.walk) n × Contains (numbers_met sight.now.heads.now ends.new.down.walk) n) }
+    ensures apart { result ≡ false → WalkApart sight.now.heads.now ends.new }
+    ensures over { AreOver sight.now.heads.now ends.new }
     ensures up { ends.new.up ≡ ends.old.up }
     ensures crossed { ends.new.down.crossed ≡ ends.old.down.crossed }
 {
     let from = ends.down.walk.len();
-    let more = step_held(heads, &mut ends.down.walk, at);
+    let more = step_held(sight, &mut ends.down.walk, at);
     looked.down = looked.down.saturating_add(more);
-    meets(heads, &ends.down.walk, &ends.up.walk, from).is_some()
+    meets(sight, &ends.down.walk, &ends.up.walk, from).is_some()
 }
 
 // How many the step up from what the walk met there in turn looks at.
@@ -177,31 +168,29 @@ fn goes_up(heads: &[Head], ends: &Ends, up_at: usize, down_at: usize, looked: Lo
 // Takes steps up and down, until one walk has met what the other has, or one is at its end. Answers whether they met. They
 // take turns so that neither goes far where the other has little before it, and none begins with the thousands that come after
 // a gate.
-fn walks_meet(heads: &[Head], ends: &mut Ends) -> bool
-    requires rising { IsRising heads.now }
-    requires linked { AreLinked (nodes_of heads.now) }
-    requires gates { TellsGates heads.now }
-    requires up { Visited heads.now ends.old.up.walk }
-    requires down { Visited heads.now ends.old.down.walk }
-    ensures meet { IsTrue result → ((n : ℕ) × IsBetween (patches_of heads.now) (pending_in (nodes_of heads.now)) (numbers_met heads.now ends.old.up.walk) (numbers_met heads.now ends.old.down.walk) n) }
-    ensures apart { result ≡ false → StayApart (patches_of heads.now) (pending_in (nodes_of heads.now)) (numbers_met heads.now ends.old.up.walk) (numbers_met heads.now ends.old.down.walk) (numbers_met heads.now ends.new.up.walk) (numbers_met heads.now ends.new.down.walk) }
-    ensures over { AreOver heads.now ends.new }
+fn walks_meet(sight: &Sight<'_>, ends: &mut Ends) -> bool
+    requires sees { Sees sight.now }
+    requires up { Visited sight.now.heads.now ends.old.up.walk }
+    requires down { Visited sight.now.heads.now ends.old.down.walk }
+    ensures meet { IsTrue result → ((n : ℕ) × IsBetween (patches_of sight.now.heads.now) (pending_in (nodes_of sight.now.heads.now)) (numbers_met sight.now.heads.now ends.old.up.walk) (numbers_met sight.now.heads.now ends.old.down.walk) n) }
+    ensures apart { result ≡ false → StayApart (patches_of sight.now.heads.now) (pending_in (nodes_of sight.now.heads.now)) (numbers_met sight.now.heads.now ends.old.up.walk) (numbers_met sight.now.heads.now ends.old.down.walk) (numbers_met sight.now.heads.now ends.new.up.walk) (numbers_met sight.now.heads.now ends.new.down.walk) }
+    ensures over { AreOver sight.now.heads.now ends.new }
     ensures crossed { (ends.new.up.crossed ≡ ends.old.up.crossed) × (ends.new.down.crossed ≡ ends.old.down.crossed) }
 {
-    if meets(heads, &ends.up.walk, &ends.down.walk, 0).is_some() {
+    if meets(sight, &ends.up.walk, &ends.down.walk, 0).is_some() {
         return true;
     }
     let mut looked = Looked { up: 0, down: 0 };
     let mut up_at = 0;
     let mut down_at = 0;
     while up_at < ends.up.walk.len() && down_at < ends.down.walk.len() {
-        if goes_up(heads, ends, up_at, down_at, looked) {
-            if turn_up(heads, ends, up_at, &mut looked) {
+        if goes_up(sight.heads, ends, up_at, down_at, looked) {
+            if turn_up(sight, ends, up_at, &mut looked) {
                 return true;
             }
             up_at += 1;
         } else {
-            if turn_down(heads, ends, down_at, &mut looked) {
+            if turn_down(sight, ends, down_at, &mut looked) {
                 return true;
             }
             down_at += 1;
@@ -211,21 +200,24 @@ fn walks_meet(heads: &[Head], ends: &mut Ends) -> bool
 }
 
 /// Whether one of the starts is the open gate or depends on it. What was met before does not matter.
-pub(crate) fn starts_close(heads: &[Head], ends: &mut Ends, gate: u32, starts: Starts<'_>) -> bool
-    requires rising { IsRising heads.now }
-    requires over { AreOver heads.now ends.old }
-    requires linked { AreLinked (nodes_of heads.now) }
-    requires gates { TellsGates heads.now }
-    requires is_open { IsOpenNumber (patches_of heads.now) gate }
-    ensures close { IsTrue result ↔ StartsAbove (patches_of heads.now) gate starts.entry }
-    ensures over { AreOver heads.now ends.new }
+pub(crate) fn starts_close(
+    sight: &Sight<'_>,
+    ends: &mut Ends,
+    gate: u32,
+    starts: Starts<'_>,
+) -> bool
+    requires sees { Sees sight.now }
+    requires over { AreOver sight.now.heads.now ends.old }
+    requires is_open { IsOpenNumber (patches_of sight.now.heads.now) gate }
+    ensures close { IsTrue result ↔ StartsAbove (patches_of sight.now.heads.now) gate starts.entry }
+    ensures over { AreOver sight.now.heads.now ends.new }
     ensures crossed { (ends.new.up.crossed ≡ ends.old.up.crossed) × (ends.new.down.crossed ≡ ends.old.down.crossed) }
 {
     ends.up.walk.clear();
-    visit_held(heads, &mut ends.up.walk, gate);
+    visit_held(sight, &mut ends.up.walk, gate);
     ends.down.walk.clear();
-    visit_starts(heads, &mut ends.down.walk, starts);
-    walks_meet(heads, ends)
+    visit_starts(sight, &mut ends.down.walk, starts);
+    walks_meet(sight, ends)
 }
 
 // Whether one of the names is the gate.
@@ -241,12 +233,12 @@ fn is_named(names: &[PatchNo], gate: u32) -> bool
 }
 
 // Whether one of the names waits for an open gate.
-fn names_held(heads: &[Head], names: &[PatchNo]) -> bool
-    requires { IsRising heads.now }
-    ensures { IsTrue result ↔ ((n : ℕ) × Contains (numbers_of names.now) n × (pending_in (nodes_of heads.now) n ≡ pending.Held)) }
+fn names_held(sight: &Sight<'_>, names: &[PatchNo]) -> bool
+    requires { Sees sight.now }
+    ensures { IsTrue result ↔ ((n : ℕ) × Contains (numbers_of names.now) n × (pending_in (nodes_of sight.now.heads.now) n ≡ pending.Held)) }
 {
     for name in names {
-        if is_pending(pending_at(heads, name.0), Pending::Held) {
+        if is_pending(pending_at(sight.heads, name.0), Pending::Held) {
             return true;
         }
     }
@@ -272,11 +264,11 @@ pub fn closes_cycle(
     if sight.heads[index].dependants.as_slice().is_empty() {
         return is_named(names, gate);
     }
-    if !names_held(sight.heads, names) {
+    if !names_held(sight, names) {
         return false;
     }
     if names_lead_to(sight, gate, names) {
         return true;
     }
-    starts_close(sight.heads, ends, gate, Starts::Names(names))
+    starts_close(sight, ends, gate, Starts::Names(names))
 }

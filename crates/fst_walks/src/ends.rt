@@ -1,14 +1,14 @@
 //! The two walks of a search from both ends, which are over the same heads and blocks, and whether they meet.
 
 ghost use Rattle.std.specs.Prelude.{◌≡◌, ◌≤◌, ◌<◌, ◌+◌, ◌++◌, ◌∷◌, [], ℕ, false, length, Contains, IfNone, IfOk, IfSome, OnOk, slice_index_or};
-ghost use Rattle.fst_heads.specs.Heads.{IsRising};
 ghost use Rattle.fst_heads.specs.Indices.{HasIndex};
 ghost use Rattle.fst_walks.specs.BothEnds.{IsOver};
 ghost use Rattle.fst_walks.specs.Descending.{Visited};
+ghost use Rattle.fst_levels.specs.Sights.{Sees};
 ghost use Rattle.fst_levels.specs.Walks.{numbers_met};
 
 use crate::block_walk::BlockWalk;
-use fst_heads::head::Head;
+use fst_levels::sight::Sight;
 use fst_levels::walk::Walk;
 use std::alloc::{AllocError, Global};
 
@@ -27,12 +27,12 @@ pub struct Looked {
 }
 
 /// The index of what the walk met at that turn or later, and the other has met too.
-pub(crate) fn meets(heads: &[Head], walk: &Walk, other: &Walk, from: usize) -> Option<usize>
-    requires walk { length walk.now.marks ≡ length heads.now }
-    requires other { Visited heads.now other.now }
-    requires rising { IsRising heads.now }
-    ensures met { IfSome result (λ index. (n : ℕ) × HasIndex heads.now n index × Contains (numbers_met heads.now walk.now) n × Contains (numbers_met heads.now other.now) n) }
-    ensures apart { IfNone result ((at : ℕ) → from ≤ at → at < length walk.now.met → Contains (numbers_met heads.now other.now) (slice_index_or (numbers_met heads.now walk.now) at 0) → ⊥) }
+pub(crate) fn meets(sight: &Sight<'_>, walk: &Walk, other: &Walk, from: usize) -> Option<usize>
+    requires sees { Sees sight.now }
+    requires walk { length walk.now.marks ≡ length sight.now.heads.now }
+    requires other { Visited sight.now.heads.now other.now }
+    ensures met { IfSome result (λ index. (n : ℕ) × HasIndex sight.now.heads.now n index × Contains (numbers_met sight.now.heads.now walk.now) n × Contains (numbers_met sight.now.heads.now other.now) n) }
+    ensures apart { IfNone result ((at : ℕ) → from ≤ at → at < length walk.now.met → Contains (numbers_met sight.now.heads.now other.now) (slice_index_or (numbers_met sight.now.heads.now walk.now) at 0) → ⊥) }
 {
     for at in from..walk.len() {
         let index = walk.index_at(at);

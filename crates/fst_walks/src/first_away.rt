@@ -102,6 +102,6 @@ pub fn visit_first_away(
     walk.clear();
     visit_high_row(sight, walk, row, least);
     let looked = walk_away(sight, walk, block, least, most);
-    keep_away(sight.heads, walk, block);
+    keep_away(sight, walk, block);
     looked
 }

@@ -13,43 +13,40 @@ ghost use Rattle.fst_levels.specs.Walks.{numbers_met};
 
 use crate::cycle::visit_row;
 use crate::gate_below::{is_other_gate, leads_to_gate};
-use fst_heads::head::Head;
 use fst_levels::shortcuts::waits_for_gate;
 use fst_levels::sight::Sight;
 use fst_levels::walk::Walk;
 
 // Whether an open gate besides this one is met on the way down from what was visited. It ends at the first.
-fn search_other(heads: &[Head], walk: &mut Walk, gate: u32) -> bool
-    requires rising { IsRising heads.now }
-    requires visited { Visited heads.now walk.old }
-    requires gates { TellsGates heads.now }
-    ensures visited { Visited heads.now walk.new }
-    ensures met { IsTrue result ↔ ((n : ℕ) × IsLedFrom (IsNextHeld (patches_of heads.now) (pending_in (nodes_of heads.now))) (numbers_met heads.now walk.old) n × IsOpenBut (patches_of heads.now) (Some gate) n) }
+fn search_other(sight: &Sight<'_>, walk: &mut Walk, gate: u32) -> bool
+    requires sees { Sees sight.now }
+    requires visited { Visited sight.now.heads.now walk.old }
+    ensures visited { Visited sight.now.heads.now walk.new }
+    ensures met { IsTrue result ↔ ((n : ℕ) × IsLedFrom (IsNextHeld (patches_of sight.now.heads.now) (pending_in (nodes_of sight.now.heads.now))) (numbers_met sight.now.heads.now walk.old) n × IsOpenBut (patches_of sight.now.heads.now) (Some gate) n) }
 {
     let mut at = 0;
     while at < walk.len() {
         let index = walk.index_at(at);
-        let head = &heads[index];
+        let head = &sight.heads[index];
         if is_other_gate(head, gate) {
             return true;
         }
-        visit_row(heads, walk, head.dependencies.as_slice());
+        visit_row(sight, walk, head.dependencies.as_slice());
         at += 1;
     }
     false
 }
 
 // Whether an open gate besides this one is in the row or below it.
-fn waits_for_another(heads: &[Head], walk: &mut Walk, row: &[u32], gate: u32) -> bool
-    requires rising { IsRising heads.now }
-    requires long { length walk.old.marks ≡ length heads.now }
-    requires gates { TellsGates heads.now }
-    ensures waits { IsTrue result ↔ HasUnder (patches_of heads.now) row.now (IsOpenBut (patches_of heads.now) (Some gate)) }
-    ensures long { length walk.new.marks ≡ length heads.now }
+fn waits_for_another(sight: &Sight<'_>, walk: &mut Walk, row: &[u32], gate: u32) -> bool
+    requires sees { Sees sight.now }
+    requires long { length walk.old.marks ≡ length sight.now.heads.now }
+    ensures waits { IsTrue result ↔ HasUnder (patches_of sight.now.heads.now) row.now (IsOpenBut (patches_of sight.now.heads.now) (Some gate)) }
+    ensures long { length walk.new.marks ≡ length sight.now.heads.now }
 {
     walk.clear();
-    visit_row(heads, walk, row);
-    search_other(heads, walk, gate)
+    visit_row(sight, walk, row);
+    search_other(sight, walk, gate)
 }
 
 /// Whether an open gate is in the row or below it, besides the one that is taken as sealed, if there is one. A change
@@ -60,11 +57,11 @@ pub fn is_blocked(sight: &Sight<'_>, walk: &mut Walk, row: &[u32], but: Option<u
     ensures blocked { IsTrue result ↔ HasUnder (patches_of sight.now.heads.now) row.now (IsOpenBut (patches_of sight.now.heads.now) but) }
     ensures long { length walk.new.marks ≡ length sight.now.heads.now }
 {
-    if !waits_for_gate(sight.heads, row) {
+    if !waits_for_gate(sight, row) {
         return false;
     }
     let Some(gate) = but else {
         return true;
     };
-    leads_to_gate(sight, row, gate) || waits_for_another(sight.heads, walk, row, gate)
+    leads_to_gate(sight, row, gate) || waits_for_another(sight, walk, row, gate)
 }

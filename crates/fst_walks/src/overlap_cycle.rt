@@ -15,19 +15,16 @@ ghost use Rattle.fst_walks.specs.Starting.{IsStart};
 use crate::cycle::starts_close;
 use crate::ends::Ends;
 use crate::starts::Starts;
-use fst_heads::head::Head;
-use fst_heads::index::index_of;
 use fst_levels::sight::Sight;
 use fst_types::Span;
 
 // Whether something may depend on the patch with the number.
-fn has_dependants(heads: &[Head], number: u32) -> bool
-    requires rising { IsRising heads.now }
-    requires linked { AreLinked (nodes_of heads.now) }
-    ensures { (n : ℕ) → DependsOn (patches_of heads.now) n number → IsTrue result }
+fn has_dependants(sight: &Sight<'_>, number: u32) -> bool
+    requires sees { Sees sight.now }
+    ensures { (n : ℕ) → DependsOn (patches_of sight.now.heads.now) n number → IsTrue result }
 {
-    match index_of(heads, number) {
-        Some(index) => !heads[index].dependants.as_slice().is_empty(),
+    match sight.levels.find(sight.heads, number) {
+        Some(index) => !sight.heads[index].dependants.as_slice().is_empty(),
         None => true,
     }
 }
@@ -65,8 +62,8 @@ pub fn overlap_reaches(
     ensures over { AreOver sight.now.heads.now ends.new }
     ensures crossed { (ends.new.up.crossed ≡ ends.old.up.crossed) × (ends.new.down.crossed ≡ ends.old.down.crossed) }
 {
-    if !has_dependants(sight.heads, gate) {
+    if !has_dependants(sight, gate) {
         return false;
     }
-    starts_close(sight.heads, ends, gate, overlapped(sight, block, span))
+    starts_close(sight, ends, gate, overlapped(sight, block, span))
 }

@@ -55,13 +55,13 @@ pub fn visit_high_row(sight: &Sight<'_>, walk: &mut Walk, row: &[u32], least: u3
 }
 
 // Whether the patch with the number, which stands at the index, is a hard change in memory.
-fn is_any_hard(heads: &[Head], index: usize, number: u32) -> bool
-    requires rising { IsRising heads.now }
-    requires index { HasIndex heads.now number index }
-    ensures { IsTrue result ↔ ((c : ℕ) × IsHardNumber (patches_of heads.now) c number) }
+fn is_any_hard(sight: &Sight<'_>, index: usize, number: u32) -> bool
+    requires sees { Sees sight.now }
+    requires index { HasIndex sight.now.heads.now number index }
+    ensures { IsTrue result ↔ ((c : ℕ) × IsHardNumber (patches_of sight.now.heads.now) c number) }
 {
     let _ = number;
-    let head = &heads[index];
+    let head = &sight.heads[index];
     if let Kind::Change(_, block, _) = head.kind {
         return is_hard_in(head, block as u32);
     }
@@ -83,7 +83,7 @@ fn visit_high_below(
     ensures visited { Visited sight.now.heads.now walk.new }
     ensures visits { Visits (StepsBelow (patches_of sight.now.heads.now) (level_of sight.now.levels.now.ranks) least number) (numbers_met sight.now.heads.now walk.old) (numbers_met sight.now.heads.now walk.new) }
 {
-    if is_any_hard(sight.heads, index, number) {
+    if is_any_hard(sight, index, number) {
         return 0;
     }
     let below = sight.heads[index].dependencies.as_slice();

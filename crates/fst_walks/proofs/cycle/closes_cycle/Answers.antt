@@ -20,6 +20,3 @@ returns-then-not-names_held-clause-closes c =
       λ e. absurd (cc),
       λ a. absurd (false≢true (sym c.if-not-names_held.true ∙ c.names_held.ensures.1 (a.0, a.1, ((gates_seen sight c.requires.sees).held a.0).1 (named_held (patches_of sight.heads.now) c.args.gate a.0 gate a.2)))),
     )
-
-pub starts_close-requires-clause-gates : goal.starts_close-requires-clause-gates
-starts_close-requires-clause-gates c = gates_seen c.args.sight.now c.requires.sees

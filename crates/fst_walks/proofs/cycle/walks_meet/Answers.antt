@@ -10,7 +10,7 @@ use Rattle.fst_walks.proofs.cycle.walks_meet.Goals as goal
 
 pub loop-up_at-init : goal.loop-up_at-init
 loop-up_at-init c =
-    let heads = c.args.heads.now in
+    let heads = c.args.sight.now.heads.now in
     let up = numbers_met heads c.args.ends.now.up.walk in
     let none = none_told c.meets.result c.meets.ensures.apart (sym c.is_some.ensures ∙ c.if-is_some.false) in
     record {
@@ -27,13 +27,13 @@ loop-up_at-init c =
     }
 
 -- a step up leaves what is done so
-climbed : (c : After-turn_up) → Climbing (IsNextAbove (patches_of c.args.heads.now) (pending_in (nodes_of c.args.heads.now))) (numbers_met c.args.heads.now c.args.ends.now.up.walk) (c.loop-up_at.up_at + 1) (numbers_met c.args.heads.now c.turn_up.new.ends.up.walk)
-climbed c = let heads = c.args.heads.now in let up = c.loop-up_at.ends.up.walk in
+climbed : (c : After-turn_up) → Climbing (IsNextAbove (patches_of c.args.sight.now.heads.now) (pending_in (nodes_of c.args.sight.now.heads.now))) (numbers_met c.args.sight.now.heads.now c.args.ends.now.up.walk) (c.loop-up_at.up_at + 1) (numbers_met c.args.sight.now.heads.now c.turn_up.new.ends.up.walk)
+climbed c = let heads = c.args.sight.now.heads.now in let up = c.loop-up_at.ends.up.walk in
     climbing_more _ (numbers_met heads c.args.ends.now.up.walk) c.loop-up_at.up_at (numbers_met heads up) (numbers_met heads c.turn_up.new.ends.up.walk) (omega (arith, c.loop-up_at-test.true, c.len.ensures.long, long_met heads up)) c.loop-up_at.invariant.climbs c.turn_up.ensures.visits
 
 -- and one down
-descended : (c : After-turn_down) → Climbing (IsNextHeld (patches_of c.args.heads.now) (pending_in (nodes_of c.args.heads.now))) (numbers_met c.args.heads.now c.args.ends.now.down.walk) (c.loop-up_at.down_at + 1) (numbers_met c.args.heads.now c.turn_down.new.ends.down.walk)
-descended c = let heads = c.args.heads.now in let down = c.loop-up_at.ends.down.walk in
+descended : (c : After-turn_down) → Climbing (IsNextHeld (patches_of c.args.sight.now.heads.now) (pending_in (nodes_of c.args.sight.now.heads.now))) (numbers_met c.args.sight.now.heads.now c.args.ends.now.down.walk) (c.loop-up_at.down_at + 1) (numbers_met c.args.sight.now.heads.now c.turn_down.new.ends.down.walk)
+descended c = let heads = c.args.sight.now.heads.now in let down = c.loop-up_at.ends.down.walk in
     climbing_more _ (numbers_met heads c.args.ends.now.down.walk) c.loop-up_at.down_at (numbers_met heads down) (numbers_met heads c.turn_down.new.ends.down.walk) (omega (arith, c.if-down_at-len.true, c.len-in-loop-up_at.ensures.long, long_met heads down)) c.loop-up_at.invariant.descends c.turn_down.ensures.visits
 
 pub returns-then-turn_up-clause-meet : goal.returns-then-turn_up-clause-meet
@@ -48,7 +48,7 @@ returns-then-turn_down-clause-meet c _ =
 
 pub loop-up_at-preserved-then-goes_up : goal.loop-up_at-preserved-then-goes_up
 loop-up_at-preserved-then-goes_up c =
-    let heads = c.args.heads.now in
+    let heads = c.args.sight.now.heads.now in
     let known = c.loop-up_at.invariant in
     record {
       apart = c.turn_up.ensures.apart c.if-turn_up.false;
@@ -74,7 +74,7 @@ loop-up_at-preserved c =
 -- the walk down is at its end
 pub returns-else-down_at-len-clause-apart : goal.returns-else-down_at-len-clause-apart
 returns-else-down_at-len-clause-apart c _ =
-    let heads = c.args.heads.now in
+    let heads = c.args.sight.now.heads.now in
     let begun = c.args.ends.now in
     let ends = c.loop-up_at.ends in
     let known = c.loop-up_at.invariant in
@@ -89,7 +89,7 @@ returns-else-down_at-len-clause-apart c _ =
 -- the walk up is at its end
 pub returns-after-loop-up_at-clause-apart : goal.returns-after-loop-up_at-clause-apart
 returns-after-loop-up_at-clause-apart c _ =
-    let heads = c.args.heads.now in
+    let heads = c.args.sight.now.heads.now in
     let begun = c.args.ends.now in
     let ends = c.loop-up_at.ends in
     let known = c.loop-up_at.invariant in

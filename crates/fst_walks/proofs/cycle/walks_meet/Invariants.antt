@@ -7,13 +7,13 @@ use Rattle.fst_walks.proofs.cycle.walks_meet.Given as goal
 
 abbrev pub invariant-loop-up_at : goal.invariant-loop-up_at
 invariant-loop-up_at l = record {
-  apart : WalkApart l.heads l.ends;
-  climbs : Climbing (IsNextAbove (patches_of l.heads) (pending_in (nodes_of l.heads))) (numbers_met l.heads l.initial.ends.up.walk) l.up_at (numbers_met l.heads l.ends.up.walk);
-  descends : Climbing (IsNextHeld (patches_of l.heads) (pending_in (nodes_of l.heads))) (numbers_met l.heads l.initial.ends.down.walk) l.down_at (numbers_met l.heads l.ends.down.walk);
+  apart : WalkApart l.sight.heads.now l.ends;
+  climbs : Climbing (IsNextAbove (patches_of l.sight.heads.now) (pending_in (nodes_of l.sight.heads.now))) (numbers_met l.sight.heads.now l.initial.ends.up.walk) l.up_at (numbers_met l.sight.heads.now l.ends.up.walk);
+  descends : Climbing (IsNextHeld (patches_of l.sight.heads.now) (pending_in (nodes_of l.sight.heads.now))) (numbers_met l.sight.heads.now l.initial.ends.down.walk) l.down_at (numbers_met l.sight.heads.now l.ends.down.walk);
   crossed : (l.ends.up.crossed ≡ l.initial.ends.up.crossed) × (l.ends.down.crossed ≡ l.initial.ends.down.crossed);
-  few_up : l.up_at ≤ length l.heads;
-  few_down : l.down_at ≤ length l.heads;
+  few_up : l.up_at ≤ length l.sight.heads.now;
+  few_down : l.down_at ≤ length l.sight.heads.now;
 }
 
 abbrev pub decreases-loop-up_at : goal.decreases-loop-up_at
-decreases-loop-up_at l = (length l.heads - l.up_at) + (length l.heads - l.down_at)
+decreases-loop-up_at l = (length l.sight.heads.now - l.up_at) + (length l.sight.heads.now - l.down_at)

@@ -3,11 +3,8 @@ use Rattle.std.proofs.lemmas.Bool.{false≢true}
 use Rattle.fst_types.specs.{Closure.join, Dependencies.DependsOn, Gates.IsOpenNumber}
 use Rattle.fst_heads.specs.Heads.{patches_of}
 use Rattle.fst_heads.proofs.Listing.{rising_patches}
-use Rattle.fst_walks.proofs.{GatesSeen.gates_seen, Overlapped.touched_no_gate}
+use Rattle.fst_walks.proofs.{Overlapped.touched_no_gate}
 use Rattle.fst_walks.proofs.overlap_cycle.overlap_reaches.Goals as goal
-
-pub starts_close-requires-clause-gates : goal.starts_close-requires-clause-gates
-starts_close-requires-clause-gates c = gates_seen c.args.sight.now c.requires.sees
 
 pub returns-then-not-has_dependants-clause-reaches : goal.returns-then-not-has_dependants-clause-reaches
 returns-then-not-has_dependants-clause-reaches c = (
