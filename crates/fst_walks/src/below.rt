@@ -23,7 +23,7 @@ ghost use Rattle.fst_levels.specs.Walks.{numbers_met};
 use crate::block_walk::BlockWalk;
 use crate::first_away::{FEW, visit_first_away};
 use crate::graded::{Graded, hard_after, soft};
-use crate::way_down::{change_across, step_down};
+use crate::way_down::{change_near, step_down};
 use fst_heads::head::Head;
 use fst_heads::test::{Test, passes};
 use fst_levels::sight::Sight;
@@ -104,7 +104,7 @@ fn descend(
     let mut left = most;
     let mut at = 0;
     while at < down.walk.len() {
-        let next = change_across(sight, &down.walk, &down.crossed, at, least, block);
+        let next = change_near(sight, &down.walk, &down.crossed, at, least, block);
         if next.is_some() {
             return Some(next);
         }

@@ -19,9 +19,14 @@ ghost use Rattle.fst_levels.specs.Walks.{numbers_met};
 
 use fst_heads::head::{Head, Kind};
 use fst_heads::test::{Test, is_live};
-use fst_levels::shortcuts::{is_hard_in, passes_at};
+use fst_levels::shortcuts::{is_hard_in, newest_few, passes_at};
 use fst_levels::sight::Sight;
 use fst_levels::walk::Walk;
+
+// A row of up to so many is visited whole, and of a longer one so many of the newest are looked at first.
+const SHORT: usize = 64;
+
+const NEWEST: usize = 8;
 
 // Visits the patch with the number, unless it is on disk, lower than `least` or was visited before. It looks at the head
 // only where that is high enough and was not visited: most are too low or were, and heads are far larger than ranks.
@@ -147,9 +152,9 @@ fn is_high_change(sight: &Sight<'_>, number: u32, least: u32, on: u32) -> bool
     passes_at(sight, Test::LiveOn(on), number) && sight.levels.of(sight.heads, number) >= least
 }
 
-/// A change of the block `on` to which a step leads down from the patch that was met there in turn, across its block, as far as
-/// that is told by what this was last found to need of `on`. So it is found without a visit to all that the block needs.
-pub fn change_across(
+// A change of the block `on` to which a step leads down from the patch that was met there in turn, across its block, as far as
+// that is told by what this was last found to need of `on`. So it is found without a visit to all that the block needs.
+fn change_across(
     sight: &Sight<'_>,
     walk: &Walk,
     crossed: &[bool],
@@ -176,6 +181,54 @@ pub fn change_across(
     } else {
         None
     }
+}
+
+// A change of the block `on` that the patch that was met there in turn directly depends on, if its row is long, among the newest
+// of that. So a way that ends below a gate over thousands is found without a visit to all of them.
+fn change_below(sight: &Sight<'_>, walk: &Walk, at: usize, least: u32, on: u32) -> Option<u32>
+    requires sees { Sees sight.now }
+    requires visited { Visited sight.now.heads.now walk.now }
+    requires at { at < length walk.now.met }
+    ensures { IfSome result (λ n. PassesAt (test.LiveOn on) (patches_of sight.now.heads.now) n × StepsBelow (patches_of sight.now.heads.now) (level_of sight.now.levels.now.ranks) least (slice_index_or (numbers_met sight.now.heads.now walk.now) at 0) n) }
+{
+    let index = walk.index_at(at);
+    let row = sight.heads[index].dependencies.as_slice();
+    if row.len() <= SHORT {
+        return None;
+    }
+    let number = sight.heads[index].number;
+    if is_any_hard(sight, index, number) {
+        return None;
+    }
+    for below in newest_few(row, NEWEST) {
+        if is_high_change(sight, *below, least, on) {
+            return Some(*below);
+        }
+    }
+    None
+}
+
+/// A change of the block `on` to which a step leads down from the patch that was met there in turn, as far as a few looks tell:
+/// below it, or across its block.
+pub fn change_near(
+    sight: &Sight<'_>,
+    walk: &Walk,
+    crossed: &[bool],
+    at: usize,
+    least: u32,
+    on: u32,
+) -> Option<u32>
+    requires sees { Sees sight.now }
+    requires crossed { length crossed.now ≡ length sight.now.lists.now }
+    requires visited { Visited sight.now.heads.now walk.now }
+    requires at { at < length walk.now.met }
+    ensures { IfSome result (λ n. PassesAt (test.LiveOn on) (patches_of sight.now.heads.now) n × StepsHigh (patches_of sight.now.heads.now) (level_of sight.now.levels.now.ranks) least (needs_of sight.now.needs.now.lists) crossed.now (slice_index_or (numbers_met sight.now.heads.now walk.now) at 0) n) }
+{
+    let below = change_below(sight, walk, at, least, on);
+    if below.is_some() {
+        return below;
+    }
+    change_across(sight, walk, crossed, at, least, on)
 }
 
 /// Visits what a step leads down to from the patch that was met there in turn, as far as it is no lower than `least`. Answers

@@ -32,7 +32,7 @@ returns-then-is_some-clause-met c =
     let start = c.args.down.now in
     let down = c.loop-at.down in
     let inside : c.loop-at.at < length (numbers_met heads down.walk) = omega (arith, c.loop-at-test.true, c.len.ensures.long, long_met heads down.walk) in
-    IfSome_then c.change_across-next.result c.change_across-next.ensures (λ n across. record {
+    IfSome_then c.change_near-next.result c.change_near-next.ensures (λ n across. record {
       under = high_led (patches_of heads) (level_of sight.levels.now.ranks) c.args.least (needs_of sight.needs.now.lists) start.crossed.items (numbers_met heads start.walk) c.loop-at.at c.loop-at.at down.crossed.items (numbers_met heads down.walk) inside c.loop-at.invariant.descends n
           (subst (λ shown. StepsHigh (patches_of heads) (level_of sight.levels.now.ranks) c.args.least (needs_of sight.needs.now.lists) shown (get_or (numbers_met heads down.walk) c.loop-at.at 0) n) c.deref.ensures.value across.1);
       change = across.0;
