@@ -200,9 +200,22 @@ def fan_of_others():
     return made
 
 
+def fan_in_flight():
+    """A gate over 20,000 changes of a block that is being written; every second of 10,000 more comes after another block's over it."""
+    made = Script(3)
+    own = [made.patch(0, made.dice.randrange(4096)) for _ in range(MANY)]
+    gate = made.sealed(own)
+    made.ask("write", block=0)
+    over = made.patch(1, 0, [gate])
+    for turn in range(MANY // 2):
+        made.patch(0, made.dice.randrange(4096), [gate, made.dice.choice(own)] if turn % 2 else [over])
+    return made
+
+
 SHAPES = [
     ring_back, gates_in_a_chain, two_families, three_blocks, groups_in_a_chain, chains_of_groups, deep_below, tower,
     behind_a_gate, gate_each, deep_over, many_needs, superblock_waits, fan_of_own, fan_of_others,
+    fan_in_flight,
 ]
 
 
