@@ -5,7 +5,7 @@ use Rattle.std.proofs.lemmas.List.Elements.{Contains-append_left, Contains-get_o
 use Rattle.fst_types.specs.Closure.{Closure, one, join}
 use Rattle.fst_heads.specs.Reaching.{IsReached}
 use Rattle.fst_heads.proofs.Indices.{any_default}
-use Rattle.fst_walks.specs.Descending.{IsLedFrom, Visits}
+use Rattle.fst_walks.specs.Descending.{GoesOn, IsLedFrom, Visits}
 use Rattle.fst_walks.proofs.Visiting.{visits_old}
 
 -- all that steps lead to from the first `at` in the queue is there
@@ -56,6 +56,29 @@ next_or_done at i up = elim (cases_lt i at) [ inl before ↦ inl before | inr pa
 
 pub climbing_more : (Steps : ℕ → ℕ → Type 0) (start : List ℕ) (at : ℕ) (queue new : List ℕ) → at < length queue → Climbing Steps start at queue → Visits (Steps (get_or queue at 0)) queue new → Climbing Steps start (at + 1) new
 climbing_more Steps start at queue new inside x v = climbing_at Steps start at at (at + 1) queue new (omega (arith, inside)) inside (next_or_done at) x v
+
+-- what is visited by a step from any in the queue, steps lead to from there
+pub visits_on : (Steps : ℕ → ℕ → Type 0) (turn : ℕ) (queue new : List ℕ) → turn < length queue → Visits (Steps (get_or queue turn 0)) queue new → GoesOn Steps queue new
+visits_on Steps turn queue new inside v = record {
+  kept = v.kept;
+  only = λ n c. elim (v.only n c) [ inl old ↦ inl old | inr s ↦ inr (get_or queue turn 0, Contains-get_or queue turn 0 inside, one s) ];
+}
+
+pub goes_nowhere : (Steps : ℕ → ℕ → Type 0) (queue : List ℕ) → GoesOn Steps queue queue
+goes_nowhere Steps queue = record { kept = ([], sym (append-nil queue)); only = λ n c. inl c }
+
+-- and what is done stays done
+pub climbing_on : (Steps : ℕ → ℕ → Type 0) (start : List ℕ) (at : ℕ) (queue new : List ℕ) → at ≤ length queue → Climbing Steps start at queue → GoesOn Steps queue new → Climbing Steps start at new
+climbing_on Steps start at queue new past x on = record {
+  grown = (x.grown.0 ++ on.kept.0, on.kept.1 ∙ (ap (λ q. q ++ on.kept.0) x.grown.1 ∙ append_assoc start x.grown.0 on.kept.0));
+  only = λ n c. elim (on.only n c) [
+    | inl old ↦ x.only n old
+    | inr r ↦ elim (x.only r.0 r.1) [ inl begun ↦ inr (r.0, begun, r.2) | inr s ↦ inr (s.0, s.1, join s.2 r.2) ]
+  ];
+  done = λ i q up lt s.
+      let here = ap (λ m. get_or m i 0) on.kept.1 ∙ get_or_append_left queue on.kept.0 0 i (omega (arith, up, past)) in
+      subst (λ m. Contains m q) (sym on.kept.1) (Contains-append_left queue on.kept.0 q (x.done i q up (omega (arith, up, past)) (subst (λ m. Steps m q) here s)));
+}
 
 -- in the end all is met
 pub climbing_all : (Steps : ℕ → ℕ → Type 0) (start : List ℕ) (at : ℕ) (queue : List ℕ) → length queue ≤ at → Climbing Steps start at queue → (n : ℕ) → Contains queue n ↔ IsLedFrom Steps start n

@@ -18,3 +18,8 @@ pub record Visits (P : ℕ → Type 0) (old new : List ℕ) : Type 0 where
   pub kept : (rest : List ℕ) × (new ≡ old ++ rest)
   pub only : (n : ℕ) → Contains new n → Contains old n ⊎ P n
   pub each : (n : ℕ) → P n → Contains new n
+
+-- besides what was met, only what steps lead to from there was met, behind the others
+pub record GoesOn (Steps : ℕ → ℕ → Type 0) (old new : List ℕ) : Type 0 where
+  pub kept : (rest : List ℕ) × (new ≡ old ++ rest)
+  pub only : (n : ℕ) → Contains new n → IsLedFrom Steps old n

@@ -17,7 +17,7 @@ ghost use Rattle.fst_walks.specs.Telling.{IsTold};
 ghost use Rattle.fst_levels.specs.Walks.{numbers_met};
 ghost use Rattle.fst_levels.specs.WayBack.{ShowsBlockOf};
 
-use crate::ends::{Ends, Looked, meets};
+use crate::ends::{Ends, Looked, meets, turn_from_end};
 use crate::first_away::{FEW, visit_first_away};
 use crate::graded::{Graded, hard_after, soft};
 use crate::trace::trace;
@@ -100,16 +100,6 @@ fn turn_down(
     );
     looked.down = looked.down.saturating_add(more);
     meets(sight, &ends.down.walk, &ends.up.walk, from)
-}
-
-// At which turn a walk is looked at from its end: the one before `deep`, or the last where all from there on was looked at
-// from its beginning.
-fn turn_from_end(deep: usize, first: usize, len: usize) -> usize
-    requires first { first < len }
-    requires deep { deep ≤ len }
-    ensures { result < len }
-{
-    if deep <= first { len - 1 } else { deep - 1 }
 }
 
 // Takes steps by turns, through what is no higher than `most` and no lower than `least`, until one walk has met what the

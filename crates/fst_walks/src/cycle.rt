@@ -4,13 +4,14 @@
 //! the gate: over a long chain they tell at once, where both walks would go through half of it. Mostly one end has far less
 //! around it than the other: so one walk goes up from the gate, to what depends on it, and one down from the starts, and the
 //! one that has looked at less takes the next step. They meet where there is a cycle; there is none where one of them comes
-//! to its end and they have not met.
+//! to its end and they have not met. Each steps from what it met first, which it must to come to its end, and by turns from
+//! what it met last: so two that are to meet after many steps do so without all that lies about both beginnings.
 
-ghost use Rattle.std.specs.Prelude.{◌≡◌, ◌↔◌, ◌<◌, ℕ, false, length, Contains, IsTrue, slice_index_or};
+ghost use Rattle.std.specs.Prelude.{◌≡◌, ◌↔◌, ◌≤◌, ◌<◌, ℕ, false, length, Contains, IsTrue, slice_index_or};
 ghost use Rattle.fst_types.specs.Gates.{IsOpenNumber};
 ghost use Rattle.fst_types.specs.Order.{NamesAbove};
 ghost use Rattle.fst_heads.specs.declared.pending.Pending.TheVariants as pending;
-ghost use Rattle.fst_walks.specs.Descending.{Visited, Visits};
+ghost use Rattle.fst_walks.specs.Descending.{GoesOn, Visited, Visits};
 ghost use Rattle.fst_heads.specs.Heads.{IsRising, patches_of};
 ghost use Rattle.fst_heads.specs.Names.{numbers_of};
 ghost use Rattle.fst_heads.specs.Indices.{HasIndex};
@@ -20,7 +21,7 @@ ghost use Rattle.fst_levels.specs.Sights.{Sees};
 ghost use Rattle.fst_walks.specs.Starting.{StartsAbove};
 ghost use Rattle.fst_levels.specs.Walks.{numbers_met};
 
-use crate::ends::{Ends, Looked, meets};
+use crate::ends::{Ends, Looked, meets, turn_from_end};
 use crate::starts::{Starts, visit_starts};
 use fst_heads::head::Head;
 use fst_heads::pending::{Pending, is_pending};
@@ -140,6 +141,80 @@ fn row_below(heads: &[Head], walk: &Walk, at: usize) -> usize
 // Up to how many a step looks at in its turn, whatever the other walk has before it.
 const FEW: usize = 64;
 
+// Whether a step from the end of a walk is taken: where it looks at few, or at no more than the walk has looked at before.
+fn is_short(row: usize, looked: usize) -> bool {
+    row <= FEW || row <= looked
+}
+
+// A step of the walk up from what it met last, `deep` of which were not looked at so, unless that is to look at many. Answers
+// whether it met what the walk down has met.
+fn turn_up_last(
+    sight: &Sight<'_>,
+    ends: &mut Ends,
+    at: usize,
+    deep: &mut usize,
+    looked: &mut Looked,
+) -> bool
+    requires sees { Sees sight.now }
+    requires apart { WalkApart sight.now.heads.now ends.old }
+    requires at { at < length ends.old.up.walk.met }
+    requires deep { deep.old ≤ length ends.old.up.walk.met }
+    ensures goes_on { GoesOn (IsNextAbove (patches_of sight.now.heads.now) (pending_in (nodes_of sight.now.heads.now))) (numbers_met sight.now.heads.now ends.old.up.walk) (numbers_met sight.now.heads.now ends.new.up.walk) }
+    ensures met { IsTrue result → ((n : ℕ) × Contains (numbers_met sight.now.heads.now ends.new.up.walk) n × Contains (numbers_met sight.now.heads.now ends.old.down.walk) n) }
+    ensures apart { result ≡ false → WalkApart sight.now.heads.now ends.new }
+    ensures over { AreOver sight.now.heads.now ends.new }
+    ensures down { ends.new.down ≡ ends.old.down }
+    ensures crossed { ends.new.up.crossed ≡ ends.old.up.crossed }
+    ensures deep { deep.new ≤ length ends.new.up.walk.met }
+{
+    let before = ends.up.walk.len();
+    let last = turn_from_end(*deep, at, before);
+    *deep = last;
+    if !is_short(row_above(sight.heads, &ends.up.walk, last), looked.up) {
+        return false;
+    }
+    let met = turn_up(sight, ends, last, looked);
+    let now = ends.up.walk.len();
+    if before < now {
+        *deep = now;
+    }
+    met
+}
+
+// A step of the walk down from what it met last, likewise.
+fn turn_down_last(
+    sight: &Sight<'_>,
+    ends: &mut Ends,
+    at: usize,
+    deep: &mut usize,
+    looked: &mut Looked,
+) -> bool
+    requires sees { Sees sight.now }
+    requires apart { WalkApart sight.now.heads.now ends.old }
+    requires at { at < length ends.old.down.walk.met }
+    requires deep { deep.old ≤ length ends.old.down.walk.met }
+    ensures goes_on { GoesOn (IsNextHeld (patches_of sight.now.heads.now) (pending_in (nodes_of sight.now.heads.now))) (numbers_met sight.now.heads.now ends.old.down.walk) (numbers_met sight.now.heads.now ends.new.down.walk) }
+    ensures met { IsTrue result → ((n : ℕ) × Contains (numbers_met sight.now.heads.now ends.old.up.walk) n × Contains (numbers_met sight.now.heads.now ends.new.down.walk) n) }
+    ensures apart { result ≡ false → WalkApart sight.now.heads.now ends.new }
+    ensures over { AreOver sight.now.heads.now ends.new }
+    ensures up { ends.new.up ≡ ends.old.up }
+    ensures crossed { ends.new.down.crossed ≡ ends.old.down.crossed }
+    ensures deep { deep.new ≤ length ends.new.down.walk.met }
+{
+    let before = ends.down.walk.len();
+    let last = turn_from_end(*deep, at, before);
+    *deep = last;
+    if !is_short(row_below(sight.heads, &ends.down.walk, last), looked.down) {
+        return false;
+    }
+    let met = turn_down(sight, ends, last, looked);
+    let now = ends.down.walk.len();
+    if before < now {
+        *deep = now;
+    }
+    met
+}
+
 // Whether the next step is one up: it is the turn of the walk that has looked at less, but where that is to look at many, of the
 // one that will have looked at less.
 fn goes_up(heads: &[Head], ends: &Ends, up_at: usize, down_at: usize, looked: Looked) -> bool
@@ -183,14 +258,22 @@ fn walks_meet(sight: &Sight<'_>, ends: &mut Ends) -> bool
     let mut looked = Looked { up: 0, down: 0 };
     let mut up_at = 0;
     let mut down_at = 0;
+    let mut up_deep = 0;
+    let mut down_deep = 0;
     while up_at < ends.up.walk.len() && down_at < ends.down.walk.len() {
         if goes_up(sight.heads, ends, up_at, down_at, looked) {
             if turn_up(sight, ends, up_at, &mut looked) {
                 return true;
             }
+            if turn_up_last(sight, ends, up_at, &mut up_deep, &mut looked) {
+                return true;
+            }
             up_at += 1;
         } else {
             if turn_down(sight, ends, down_at, &mut looked) {
+                return true;
+            }
+            if turn_down_last(sight, ends, down_at, &mut down_deep, &mut looked) {
                 return true;
             }
             down_at += 1;

@@ -43,6 +43,16 @@ pub(crate) fn meets(sight: &Sight<'_>, walk: &Walk, other: &Walk, from: usize) -
     None
 }
 
+/// At which turn a walk is looked at from its end: the one before `deep`, or the last where all from there on was looked at
+/// from its beginning.
+pub(crate) fn turn_from_end(deep: usize, first: usize, len: usize) -> usize
+    requires first { first < len }
+    requires deep { deep ≤ len }
+    ensures { result < len }
+{
+    if deep <= first { len - 1 } else { deep - 1 }
+}
+
 // A walk over no head.
 fn empty_walk(alloc: Global, blocks: u32) -> Result<BlockWalk, AllocError>
     ensures { IfOk result (IsOver [] blocks) }

@@ -11,6 +11,8 @@ invariant-loop-up_at l = record {
   climbs : Climbing (IsNextAbove (patches_of l.sight.heads.now) (pending_in (nodes_of l.sight.heads.now))) (numbers_met l.sight.heads.now l.initial.ends.up.walk) l.up_at (numbers_met l.sight.heads.now l.ends.up.walk);
   descends : Climbing (IsNextHeld (patches_of l.sight.heads.now) (pending_in (nodes_of l.sight.heads.now))) (numbers_met l.sight.heads.now l.initial.ends.down.walk) l.down_at (numbers_met l.sight.heads.now l.ends.down.walk);
   crossed : (l.ends.up.crossed ≡ l.initial.ends.up.crossed) × (l.ends.down.crossed ≡ l.initial.ends.down.crossed);
+  up_deep : l.up_deep ≤ length l.ends.up.walk.met;
+  down_deep : l.down_deep ≤ length l.ends.down.walk.met;
   few_up : l.up_at ≤ length l.sight.heads.now;
   few_down : l.down_at ≤ length l.sight.heads.now;
 }
