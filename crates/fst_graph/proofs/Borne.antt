@@ -1,11 +1,10 @@
 -- What holds of the patches of heads, said of the patches of their nodes; and sums and counts that fit.
 use Rattle.std.proofs.Common.{◌≡◌, ◌<◌, ◌≤◌, ◌+◌, ℕ, false, List, [], ◌∷◌, ◌++◌, Result, Ok, Err, OnOk, is_err, map, set, get_or, Contains, sym, ap, subst, inl, inr, arith, Bool, count_by}
 use Rattle.std.proofs.lemmas.{Bool.cases_lt, List.length-map, List.Sums.count_by-le-length}
-use Rattle.std.specs.Global.{Vec}
 use Rattle.std.specs.List.Sorted.{IsStrictlyIncreasing}
 use Rattle.fst_types.specs.{Dependencies.DirectlyOn, Facts.SparseAreLawful, Gates.IsOpenNumber, Limits.max_heads, Patches.Patch, Tests.is_live}
 use Rattle.fst_heads.specs.{Heads.{patches_of}, Keeps.{Beside, IsInside}, Nodes.{Node, nodes_of, patches_in, pending_in, AreDistinct, AreSettled, node_of}}
-use Rattle.fst_heads.specs.{Pendings.{Fits, IsOf, max_block, sums_of}, Spreading.{is_waiting, lands}, Standings.AllStand, declared.head.Head.Head, declared.standing.Standing.Standing}
+use Rattle.fst_heads.specs.{Pendings.{Fits, IsOf, max_block, sums_of}, Spreading.{is_waiting, lands}, Standings.AllStand, declared.{head.Head.Head, heads.Heads.Heads}, declared.standing.Standing.Standing}
 use Rattle.fst_heads.proofs.{AtNumber.patches_in_nodes, Beside.waiting_live, Few.gain_few, PendingIn.found, Stands.{stand_landed, stand_landed_outside}, Sums.sums_fit}
 use Rattle.fst_heads.specs.declared.pending.Pending.TheVariants as pending
 
@@ -62,5 +61,5 @@ pub few_waiting : (heads : List Head) {blocks live : ℕ} {reached : List Bool} 
 few_waiting heads {blocks} S B = omega (arith, waiting_live (nodes_of heads) blocks S, ap (count_by is_live) (patches_in_nodes heads), B.counted, B.few)
 
 -- a count of heads fits
-pub few_counted : (heads : Vec Head) (t : Node → Bool) (n : ℕ) → n ≡ count_by t (nodes_of heads.items) → n < 18446744073709551615
-few_counted heads t n same = omega (arith, same, count_by-le-length t (nodes_of heads.items), length-map heads.items node_of, heads.ok.0, heads.ok.1)
+pub few_counted : (heads : Heads) (t : Node → Bool) (n : ℕ) → n ≡ count_by t (nodes_of heads.list.items) → n < 18446744073709551615
+few_counted heads t n same = omega (arith, same, count_by-le-length t (nodes_of heads.list.items), length-map heads.list.items node_of, heads.list.ok.0, heads.list.ok.1)

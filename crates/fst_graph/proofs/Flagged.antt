@@ -4,7 +4,7 @@ use Rattle.std.proofs.{Math.Path.fun_ext, lemmas.{Bool.cases_Bool, List.length-m
 use Rattle.std.specs.{Global.Vec, List.list_any}
 use Rattle.fst_types.specs.{Facts.HasOnePlaceEach, Limits.max_heads, Patches.{SealedGate, Patch}, Tests.is_among}
 use Rattle.fst_types.proofs.Finite.{In, In-from_Contains, Contains-from_In, In-map}
-use Rattle.fst_heads.specs.{Heads.{IsRising, patches_of}, Landed.AreLanded, Nodes.{Node, AreSettled, node_of, nodes_of, patches_in, at_number, is_forgotten_in, gains_names, linked_to}, Spreading.{IsSpreadOf, seals, unspread}, declared.head.Head.Head, declared.pending.Sums.Sums}
+use Rattle.fst_heads.specs.{Heads.{IsRising, patches_of}, Landed.AreLanded, Nodes.{Node, AreSettled, node_of, nodes_of, patches_in, at_number, is_forgotten_in, gains_names, linked_to}, Spreading.{IsSpreadOf, seals, unspread}, declared.{head.Head.Head, heads.Heads.Heads}, declared.pending.Sums.Sums}
 use Rattle.fst_heads.proofs.{Added.{with_names, with_node}, AtNumber.patches_in_nodes, CountsAs.{count_append, count_cons}, Flagged.{forgotten_found, forgotten_here}, Landed.{IsAs, landed_map, rested_as}, Indices.rising_map}
 use Rattle.fst_graph.proofs.{Remembered.remembered_pushed}
 use Rattle.fst_graph.specs.{Remembered.{AreGone, remembered}, Sound.{AreRemembered, remembered_of}, declared.prepared.Prepared.Prepared as Stored}
@@ -127,8 +127,8 @@ rising_nodes heads rising = rising_map node_of heads (λ h. h.number) (λ x. x.p
 pub unspared : {heads : List Head} {landed : Vec ℕ} {forgotten : ℕ} {o : Option Stored} → AreRemembered heads landed forgotten o → AreRemembered heads landed forgotten None
 unspared R = record { counted = R.counted; few = R.few; told = R.told; shelf = R.shelf; spare = tt }
 
-pub spared : (heads new : Vec Head) (landed now : Vec ℕ) (o : Option Stored) (p : Stored) → o ≡ Some p → IfSome o (λ q. length heads.items < landed.cap) → new.len ≡ heads.len → now.cap ≡ landed.cap → length new.items < now.cap
-spared heads new landed now o p is spare long cap = let one : length heads.items < landed.cap = subst (λ x. IfSome x (λ q. length heads.items < landed.cap)) is spare in omega (arith, one, long, cap, heads.ok.0, new.ok.0)
+pub spared : (heads new : Heads) (landed now : Vec ℕ) (o : Option Stored) (p : Stored) → o ≡ Some p → IfSome o (λ q. length heads.list.items < landed.cap) → new.list.len ≡ heads.list.len → now.cap ≡ landed.cap → length new.list.items < now.cap
+spared heads new landed now o p is spare long cap = let one : length heads.list.items < landed.cap = subst (λ x. IfSome x (λ q. length heads.list.items < landed.cap)) is spare in omega (arith, one, long, cap, heads.list.ok.0, new.list.ok.0)
 
 -- more room among those that landed
 pub roomier_shelf : {heads new : List Head} {landed wider : Vec ℕ} {forgotten : ℕ} {o : Option Stored} → nodes_of new ≡ nodes_of heads → wider.items ≡ landed.items → landed.cap ≤ wider.cap → AreRemembered heads landed forgotten o → AreRemembered new wider forgotten None

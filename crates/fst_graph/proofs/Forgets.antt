@@ -54,23 +54,23 @@ module _ (row : List ℕ) (nodes : List Node) where
       (omega (arith, T.room, length-map nodes (flags row)))
 
 -- those that landed are the patches on disk that are not forgotten
-module _ {s : Inside} (I : AreSound s × AreRemembered s.columns.heads.items s.landed s.forgotten s.prepared) where
-  all : s.live + s.forgotten + length s.landed.items ≡ length s.columns.heads.items
+module _ {s : Inside} (I : AreSound s × AreRemembered s.columns.heads.list.items s.landed s.forgotten s.prepared) where
+  all : s.live + s.forgotten + length s.landed.items ≡ length s.columns.heads.list.items
   all = omega (
     arith,
-    all_told (nodes_of s.columns.heads.items) s.landed.items (rising_nodes s.columns.heads.items (rising_sound I.0)) I.1.told,
-    waiting_live (nodes_of s.columns.heads.items) s.blocks I.0.tallies.settled,
-    ap (count_by is_live) (patches_in_nodes s.columns.heads.items),
+    all_told (nodes_of s.columns.heads.list.items) s.landed.items (rising_nodes s.columns.heads.list.items (rising_sound I.0)) I.1.told,
+    waiting_live (nodes_of s.columns.heads.list.items) s.blocks I.0.tallies.settled,
+    ap (count_by is_live) (patches_in_nodes s.columns.heads.list.items),
     I.0.beside.counted,
     I.1.counted,
-    length-map s.columns.heads.items node_of,
+    length-map s.columns.heads.list.items node_of,
   )
 
-  pub landed_long : length s.landed.items ≡ count_by (λ p. is_at p.place place.Disk) (remembered_of s.columns.heads.items)
-  landed_long = omega (arith, all, view_long I, disk_count (is_forgotten_in (nodes_of s.columns.heads.items)) (patches_of s.columns.heads.items) (view_gone I), I.0.beside.counted)
+  pub landed_long : length s.landed.items ≡ count_by (λ p. is_at p.place place.Disk) (remembered_of s.columns.heads.list.items)
+  landed_long = omega (arith, all, view_long I, disk_count (is_forgotten_in (nodes_of s.columns.heads.list.items)) (patches_of s.columns.heads.list.items) (view_gone I), I.0.beside.counted)
 
   pub landed_bound : length s.landed.items ≤ max_heads
   landed_bound = omega (arith, all, I.1.few)
 
-  pub live_inside : s.live ≤ length s.columns.heads.items
+  pub live_inside : s.live ≤ length s.columns.heads.list.items
   live_inside = omega (arith, all)

@@ -5,17 +5,17 @@ use Rattle.std.specs.{Global.Vec, Vec.with_items}
 use Rattle.fst_types.specs.{Dependencies.{DirectlyOn, IsLiveNumber}, Facts.{IsOnDiskWithAll, SparseAreLawful}, Gates.IsOpenNumber, Gating.gains, Lists.Lists, Making.fresh, Order.depend_order}
 use Rattle.fst_types.specs.{Patches.{Patch, IsOn, OpenGate}, Refusals.NoneHolds}
 use Rattle.fst_heads.specs.{Covers.{Covering, IsPut as IsCovered}, Heads.{patches_of, IsRising}, Keeps.IsInside, Lists.{entry_of, HasRoomInList}, Nodes.{node_of, nodes_of, at_number, gains_names, linked_to, pending_in, AreSettled}}
-use Rattle.fst_heads.specs.{Pendings.{is_pending, sums_of}, Standings.{entered, is_held_on, is_ready_on}, Tests.is_hard_kind, declared.head.Head.Head}
+use Rattle.fst_heads.specs.{Pendings.{is_pending, sums_of}, Standings.{entered, is_held_on, is_ready_on}, Tests.is_hard_kind, declared.{head.Head.Head, heads.Heads.Heads}}
 use Rattle.fst_heads.specs.{declared.lists.Listed.Listed, declared.pending.{Pending.Pending, Sums.Sums}, declared.standing.Standing.Standing}
 use Rattle.fst_levels.specs.{Ancestors.{AreOver, GoesUnder}, Leveling.{IsLeveled, Leveling, jump_of, level_of, no_ancestry, floor_of, top_level}, Lifting.{IsRise, MayLift}, Needing.{IsNoted, IsPut, Needing}, Sights.Sees, Walks.{Trail, numbers_met}, declared.levels.{Ancestry.Ancestry, Rank.Rank, Rise.Rise}, declared.sight.Sight.Sight}
 use Rattle.fst_walks.specs.declared.ends.Ends.{Ends}
 use Rattle.fst_graph.specs.declared.columns.Columns.{Columns}
 use Rattle.fst_graph.specs.declared.sparse.Sparse.TheInside.{Inside}
 use Rattle.fst_graph.specs.{Fresh.{HasOneMore, HasPlaces, IsAdded, IsRoomier, MayAdd}, Ready.change_of, Sound.AreSound, declared.prepared.Prepared.Prepared as Stored}
-use Rattle.fst_heads.proofs.{Added.{new_node, with_node, with_names}, AtNumber.patches_in_nodes, Beside.{beside_made, beside_depends, one_at_most, one_live}, Covering.{covered_gained, covered_push}, Making.keeps_added, Indices.rising_heads, Stands.stand_made}
+use Rattle.fst_heads.proofs.{Added.{new_node, with_node, with_names}, AtNumber.patches_in_nodes, Beside.{beside_made, beside_depends, one_at_most, one_live}, Covering.{covered_gained, covered_push}, Making.keeps_added, Stands.stand_made}
 use Rattle.fst_levels.proofs.{Linked.{patches_made, patches_named}, Releveled.gained_is_leveled, Seen.{seen, lawful_nodes, tallies_wider}, Shelves.shelved}
 use Rattle.fst_graph.proofs.{Borne.{few_counted, lawful_with, open_nodes}, Kept.{covered_made, keeps_depends, keeps_walked, none_below_set}, Listed.listed_made, NeedsNow.{given_more, needing_change, needing_gained, needing_put}}
-use Rattle.fst_graph.proofs.{PutNow.IsPutDown, Ranks.{along_grown, leveled_change, leveled_put}, Sound.{as_many_lists, as_many_marks, as_many_places, over_down, rising_sound, sees_all, walked_sound}, Tallied.{tallies_depends, tallies_made}}
+use Rattle.fst_graph.proofs.{PutNow.IsPutDown, Ranks.{along_grown, leveled_change, leveled_put}, Sound.{as_many_lists, as_many_marks, as_many_places, over_down, sees_all, walked_sound}, Tallied.{tallies_depends, tallies_made}}
 use Rattle.fst_heads.specs.declared.pending.Pending.TheVariants as pending
 
 -- the sums of a row, as they were read of the heads
@@ -53,29 +53,44 @@ more_after R P = record {
 pub more_as : {old new : Columns} {p q : Patch} {rank own : Rank} → p ≡ q → rank ≡ own → HasOneMore p rank old new → HasOneMore q own old new
 more_as same at P = rw (← same, ← at) P
 
--- a gate that is put down is added
-pub gate_added : {old new : Columns} {n : ℕ} {row : List ℕ} → HasOneMore (fresh n OpenGate row) (record { number = n; level = top_level; ancestry = no_ancestry; hard_over = 0 }) old new → GoesUnder (patches_of old.heads.items) n row no_ancestry → vec_len old.heads < vec_capacity new.queue → IsAdded (fresh n OpenGate row) old new
-gate_added P under free = record { level = top_level; ancestry = no_ancestry; under = under; head = P; over = λ q c few. few; most = omega arith; top = λ e. refl; free = free }
+-- of the columns as they were it does not matter which proof says that their numbers rise
+pub roomier_over : {old new : Columns} (rising : IsRising old.heads.list.items) → IsRoomier (record old { heads = record { list = old.heads.list; rising = rising } }) new → IsRoomier old new
+roomier_over rising R = record { nodes = R.nodes; marks = R.marks; crossed = R.crossed; ranks = R.ranks; floors = R.floors; waiting = R.waiting; wide = R.wide }
 
-pub put_rising : (heads new : List Head) (p : Patch) (numbers : ℕ) → nodes_of new ≡ with_node (nodes_of heads) p → SparseAreLawful (patches_of heads ++ p ∷ []) numbers → IsRising new
-put_rising heads new p numbers put H = rising_heads new (rw (put_patches heads new p put) H.one_place_each.rising)
+pub added_over : {old new : Columns} {p : Patch} (rising : IsRising old.heads.list.items) → IsAdded p (record old { heads = record { list = old.heads.list; rising = rising } }) new → IsAdded p old new
+added_over rising A =
+    let H = A.head in
+    record {
+      level = A.level;
+      ancestry = A.ancestry;
+      under = A.under;
+      head = record { nodes = H.nodes; marks = H.marks; crossed = H.crossed; ranks = H.ranks; floors = H.floors; waiting = H.waiting; wide = H.wide };
+      over = A.over;
+      most = A.most;
+      top = A.top;
+      free = A.free;
+    }
+
+-- a gate that is put down is added
+pub gate_added : {old new : Columns} {n : ℕ} {row : List ℕ} → HasOneMore (fresh n OpenGate row) (record { number = n; level = top_level; ancestry = no_ancestry; hard_over = 0 }) old new → GoesUnder (patches_of old.heads.list.items) n row no_ancestry → vec_len old.heads.list < vec_capacity new.queue → IsAdded (fresh n OpenGate row) old new
+gate_added P under free = record { level = top_level; ancestry = no_ancestry; under = under; head = P; over = λ q c few. few; most = omega arith; top = λ e. refl; free = free }
 
 module _ {s : Inside} (S : AreSound s) where
   abbrev old : List Patch
-  old = patches_of s.columns.heads.items
+  old = patches_of s.columns.heads.list.items
 
   -- an open gate has more names
-  pub gained_sound : {new : Vec Head} (g : ℕ) (names on : List ℕ) → IsOpenNumber old g → NoneHolds (depend_order old s.numbers g on) → Lists (λ n. IsLiveNumber old n × Contains on n × (DirectlyOn old g n → ⊥)) names
-      → nodes_of new.items ≡ with_names (nodes_of s.columns.heads.items) g names (sums_of (pending_in (nodes_of s.columns.heads.items)) names) → AreSound (record s { columns = record s.columns { heads = new }; prepared = None })
+  pub gained_sound : {new : Heads} (g : ℕ) (names on : List ℕ) → IsOpenNumber old g → NoneHolds (depend_order old s.numbers g on) → Lists (λ n. IsLiveNumber old n × Contains on n × (DirectlyOn old g n → ⊥)) names
+      → nodes_of new.list.items ≡ with_names (nodes_of s.columns.heads.list.items) g names (sums_of (pending_in (nodes_of s.columns.heads.list.items)) names) → AreSound (record s { columns = record s.columns { heads = new }; prepared = None })
   gained_sound {new} g names on gate clear lists_live named =
-      let patches = named_patches s.columns.heads.items new.items g names named in
+      let patches = named_patches s.columns.heads.list.items new.list.items g names named in
       let keeps = keeps_depends old s.numbers s.blocks g names on _ _ S.keeps gate clear lists_live refl in
-      let lawful = subst (λ ps. SparseAreLawful ps s.numbers) (sym patches ∙ seen new.items _ named) keeps.lawful in
-      let there = subst (λ ps. Lists (λ n. IsLiveNumber ps n × Contains on n × (DirectlyOn ps g n → ⊥)) names) (sym (patches_in_nodes s.columns.heads.items)) lists_live in
+      let lawful = subst (λ ps. SparseAreLawful ps s.numbers) (sym patches ∙ seen new.list.items _ named) keeps.lawful in
+      let there = subst (λ ps. Lists (λ n. IsLiveNumber ps n × Contains on n × (DirectlyOn ps g n → ⊥)) names) (sym (patches_in_nodes s.columns.heads.list.items)) lists_live in
       record {
         keeps = rw patches keeps;
         beside = rw patches (beside_depends old s.blocks s.live s.columns.ends.up.crossed.items g names S.beside);
-        tallies = rw named (tallies_depends (nodes_of s.columns.heads.items) s.numbers s.blocks _ _ _ _ g on names (lawful_nodes s.columns.heads.items s.numbers S.keeps.lawful) lawful S.tallies (open_nodes s.columns.heads.items g gate) there);
+        tallies = rw named (tallies_depends (nodes_of s.columns.heads.list.items) s.numbers s.blocks _ _ _ _ g on names (lawful_nodes s.columns.heads.list.items s.numbers S.keeps.lawful) lawful S.tallies (open_nodes s.columns.heads.list.items g gate) there);
         covered = rw patches (covered_gained old g names s.blocks s.covers.items S.covered);
         along = S.along;
         leveled = rw patches (gained_is_leveled old g names gate s.blocks s.columns.levels S.leveled);
@@ -91,7 +106,7 @@ module _ {s : Inside} (S : AreSound s) where
   added_sound {p} M {columns} A weighs =
       let P = A.head in
       let free = A.free in
-      let patches = put_patches s.columns.heads.items columns.heads.items p P.nodes in
+      let patches = put_patches s.columns.heads.list.items columns.heads.list.items p P.nodes in
       let H = S.keeps.lawful.one_place_each in
       let given : (q : ℕ) → Contains p.dependencies q → q ≤ s.numbers = λ q h. let l = M.live q h in let k = (H.numbered l.patch l.head).1 in let e = l.numbered in omega (arith, k, e) in
       record {
@@ -101,10 +116,10 @@ module _ {s : Inside} (S : AreSound s) where
             );
         beside = rw (patches, P.crossed.0, weighs) (beside_made old s.blocks s.live (one_live p) s.columns.ends.up.crossed.items p refl (let most = one_at_most p in omega (arith, most, M.few, S.beside.counted)) S.beside);
         tallies = rw P.nodes (tallies_wider _ (s.numbers + 1) s.blocks _ _ _ _ _ _ (
-            tallies_made (nodes_of s.columns.heads.items) s.numbers s.blocks _ _ _ _ _ _ columns.queue.cap p (lawful_nodes s.columns.heads.items s.numbers S.keeps.lawful) (lawful_with s.columns.heads.items p (s.numbers + 1) M.lawful) S.tallies M.next M.rising
-            (λ m h. subst (λ ps. IsLiveNumber ps m) (sym (patches_in_nodes s.columns.heads.items)) (M.live m h)) (λ b on. absurd (M.off b on))
-            (listed_made (nodes_of s.columns.heads.items) s.blocks _ p S.tallies.listed M.plain) (stand_made (nodes_of s.columns.heads.items) s.blocks s.standings.items p M.plain S.tallies.standing)
-            (omega (arith, free, s.columns.heads.ok.0, length-map s.columns.heads.items node_of))
+            tallies_made (nodes_of s.columns.heads.list.items) s.numbers s.blocks _ _ _ _ _ _ columns.queue.cap p (lawful_nodes s.columns.heads.list.items s.numbers S.keeps.lawful) (lawful_with s.columns.heads.list.items p (s.numbers + 1) M.lawful) S.tallies M.next M.rising
+            (λ m h. subst (λ ps. IsLiveNumber ps m) (sym (patches_in_nodes s.columns.heads.list.items)) (M.live m h)) (λ b on. absurd (M.off b on))
+            (listed_made (nodes_of s.columns.heads.list.items) s.blocks _ p S.tallies.listed M.plain) (stand_made (nodes_of s.columns.heads.list.items) s.blocks s.standings.items p M.plain S.tallies.standing)
+            (omega (arith, free, s.columns.heads.list.ok.0, length-map s.columns.heads.list.items node_of))
             ) P.waiting (omega arith));
         covered = rw patches (covered_push old p M.off s.blocks s.covers.items S.covered);
         along = along_grown {old = s.columns.ends} P.marks P.crossed S.along;
@@ -120,11 +135,11 @@ module _ {s : Inside} (S : AreSound s) where
     made = change_of s.numbers p
 
     abbrev node : Pending
-    node = (new_node (nodes_of s.columns.heads.items) made).pending
+    node = (new_node (nodes_of s.columns.heads.list.items) made).pending
 
     -- the walk up may begin, and what it told may be written
-    pub may_rise : (sight : Sight) {places : List Bool} → sight.heads.now ≡ s.columns.heads.items → sight.lists.now ≡ s.lists.items → sight.covers.now ≡ s.covers.items → sight.levels.now ≡ s.columns.levels → sight.needs.now ≡ s.needs → places ≡ s.columns.ends.up.crossed.items
-        → record { sees : Sees sight; long : length s.columns.ends.up.walk.marks ≡ length sight.heads.now; crossed : length places ≡ length sight.lists.now; block : p.block < length sight.lists.now }
+    pub may_rise : (sight : Sight) {places : List Bool} → sight.heads.now.list.items ≡ s.columns.heads.list.items → sight.lists.now ≡ s.lists.items → sight.covers.now ≡ s.covers.items → sight.levels.now ≡ s.columns.levels → sight.needs.now ≡ s.needs → places ≡ s.columns.ends.up.crossed.items
+        → record { sees : Sees sight; long : length s.columns.ends.up.walk.marks ≡ length sight.heads.now.list.items; crossed : length places ≡ length sight.lists.now; block : p.block < length sight.lists.now }
     may_rise sight h l v r d places = record {
       sees = sees_all S sight h l v r d;
       long = as_many_marks S ∙ sym (ap length h);
@@ -132,13 +147,12 @@ module _ {s : Inside} (S : AreSound s) where
       block = omega (arith, D.ready.inside, as_many_lists S, ap length l);
     }
 
-    risen : (walk : Trail) {hs : List Head} {row : List ℕ} {rise : Rise} → hs ≡ s.columns.heads.items → row ≡ p.dependencies.items → IsRise (patches_of hs) s.columns.levels p.block row p.told.grade (numbers_met hs walk) rise
-        → IsRise old s.columns.levels p.block p.dependencies.items p.told.grade (numbers_met s.columns.heads.items walk) rise
+    risen : (walk : Trail) {hs : List Head} {row : List ℕ} {rise : Rise} → hs ≡ s.columns.heads.list.items → row ≡ p.dependencies.items → IsRise (patches_of hs) s.columns.levels p.block row p.told.grade (numbers_met hs walk) rise
+        → IsRise old s.columns.levels p.block p.dependencies.items p.told.grade (numbers_met s.columns.heads.list.items walk) rise
     risen walk same named R = rw (← same, ← named) R
 
-    pub may_lift : (walk : Trail) {hs gs : List Head} {row : List ℕ} {rise : Rise} → hs ≡ s.columns.heads.items → row ≡ p.dependencies.items → IsRise (patches_of hs) s.columns.levels p.block row p.told.grade (numbers_met hs walk) rise → length walk.marks ≡ length hs → gs ≡ s.columns.heads.items
+    pub may_lift : (walk : Trail) {hs gs : List Head} {row : List ℕ} {rise : Rise} → hs ≡ s.columns.heads.list.items → row ≡ p.dependencies.items → IsRise (patches_of hs) s.columns.levels p.block row p.told.grade (numbers_met hs walk) rise → length walk.marks ≡ length hs → gs ≡ s.columns.heads.list.items
         → record {
-          rising : IsRising gs;
           disk : IsOnDiskWithAll (patches_of gs);
           long : length walk.marks ≡ length gs;
           inside : (p.block < length s.columns.levels.floors) × IsInside (patches_of gs) (length s.columns.levels.floors);
@@ -146,7 +160,6 @@ module _ {s : Inside} (S : AreSound s) where
           may : rise.lifts ≡ true → MayLift (patches_of gs) s.columns.levels p.block rise.level (numbers_met gs walk);
         }
     may_lift walk same named R long there = rw there record {
-      rising = rising_sound S;
       disk = S.keeps.lawful.on_disk_with_all;
       long = long ∙ ap length same;
       inside = (omega (arith, D.ready.inside, S.leveled.long), λ q b h on. let k = S.keeps.inside q b h on in omega (arith, k, S.leveled.long));
@@ -154,14 +167,14 @@ module _ {s : Inside} (S : AreSound s) where
       may = (risen walk same named R).lifts;
     }
 
-    pub may_go_on : {hs gs : List Head} {lifted : Leveling} → hs ≡ s.columns.heads.items → IsLeveled (patches_of hs) (length s.columns.levels.floors) lifted → gs ≡ s.columns.heads.items
-        → record { rising : IsRising gs; aligned : map (λ r. r.number) lifted.ranks ≡ map (λ p. p.number) (patches_of gs); jumps : AreOver (patches_of gs) (jump_of lifted.ranks); given : 0 < s.numbers + 1 }
-    may_go_on at leveled same = rw same record { rising = rising_sound S; aligned = rw (← at) leveled.aligned; jumps = rw (← at) leveled.jumps; given = omega arith }
+    pub may_go_on : {hs gs : List Head} {lifted : Leveling} → hs ≡ s.columns.heads.list.items → IsLeveled (patches_of hs) (length s.columns.levels.floors) lifted → gs ≡ s.columns.heads.list.items
+        → record { aligned : map (λ r. r.number) lifted.ranks ≡ map (λ p. p.number) (patches_of gs); jumps : AreOver (patches_of gs) (jump_of lifted.ranks); given : 0 < s.numbers + 1 }
+    may_go_on at leveled same = rw same record { aligned = rw (← at) leveled.aligned; jumps = rw (← at) leveled.jumps; given = omega arith }
 
-    pub may_need : {hs : List Head} {row : List ℕ} → hs ≡ s.columns.heads.items → row ≡ p.dependencies.items → record { rising : IsRising hs; disk : IsOnDiskWithAll (patches_of hs); settled : (blocks : ℕ) × AreSettled (nodes_of hs) blocks; block : s.needs.block < length s.needs.lists; room : length row ≤ s.needs.room }
+    pub may_need : {hs : List Head} {row : List ℕ} → hs ≡ s.columns.heads.list.items → row ≡ p.dependencies.items → record { disk : IsOnDiskWithAll (patches_of hs); settled : (blocks : ℕ) × AreSettled (nodes_of hs) blocks; block : s.needs.block < length s.needs.lists; room : length row ≤ s.needs.room }
     may_need same named =
         let needed = D.prepared.needed in
-        rw same record { rising = rising_sound S; disk = S.keeps.lawful.on_disk_with_all; settled = (_, S.tallies.settled); block = omega (arith, D.ready.inside, needed.0, S.needing.long); room = omega (arith, needed.1, ap length named) }
+        rw same record { disk = S.keeps.lawful.on_disk_with_all; settled = (_, S.tallies.settled); block = omega (arith, D.ready.inside, needed.0, S.needing.long); room = omega (arith, needed.1, ap length named) }
 
     -- there is room for it in the list of its block, among the counts, and in the walks
     pub may_enlist : record {
@@ -183,7 +196,7 @@ module _ {s : Inside} (S : AreSound s) where
     abbrev walked : Trail → List Bool → Ends
     walked walk places = record s.columns.ends { up = record { walk = walk; crossed = with_items s.columns.ends.up.crossed places } }
 
-    pub may_put : (walk : Trail) (places : List Bool) {hs : List Head} {lifted : Leveling} → length walk.marks ≡ length hs → hs ≡ s.columns.heads.items → walk.room ≡ s.columns.ends.up.walk.room → (length lifted.ranks ≡ length s.columns.levels.ranks) × (lifted.room ≡ s.columns.levels.room) → HasPlaces 1 (record s.columns { ends = walked walk places; levels = lifted })
+    pub may_put : (walk : Trail) (places : List Bool) {hs : List Head} {lifted : Leveling} → length walk.marks ≡ length hs → hs ≡ s.columns.heads.list.items → walk.room ≡ s.columns.ends.up.walk.room → (length lifted.ranks ≡ length s.columns.levels.ranks) × (lifted.room ≡ s.columns.levels.room) → HasPlaces 1 (record s.columns { ends = walked walk places; levels = lifted })
     may_put walk places long same room lifted =
         let P = D.prepared.places in record {
           heads_free = P.heads_free;
@@ -194,11 +207,11 @@ module _ {s : Inside} (S : AreSound s) where
 
     -- the change stands as it rises, beside what its block has already
     pub change_sound : (walk : Trail) (places : List Bool) {rise : Rise} {a : Ancestry} {columns : Columns} {lifted : Leveling} → HasOneMore made (record { number = s.numbers + 1; level = rise.level; ancestry = a; hard_over = 0 }) (record s.columns { ends = walked walk places; levels = lifted }) columns
-        → {over : Pending} → over ≡ node → {hs : List Head} {row : List ℕ} → hs ≡ s.columns.heads.items → row ≡ p.dependencies.items → IsRise (patches_of hs) s.columns.levels p.block row p.told.grade (numbers_met hs walk) rise → length walk.marks ≡ length hs
-        → {hs : List Head} → hs ≡ s.columns.heads.items → IsLeveled (patches_of hs) (length s.columns.levels.floors) lifted
+        → {over : Pending} → over ≡ node → {hs : List Head} {row : List ℕ} → hs ≡ s.columns.heads.list.items → row ≡ p.dependencies.items → IsRise (patches_of hs) s.columns.levels p.block row p.told.grade (numbers_met hs walk) rise → length walk.marks ≡ length hs
+        → {hs : List Head} → hs ≡ s.columns.heads.list.items → IsLeveled (patches_of hs) (length s.columns.levels.floors) lifted
         → ((n : ℕ) → level_of s.columns.levels.ranks n ≤ rise.level → level_of lifted.ranks n ≤ rise.level) → (rise.lifts ≡ true → floor_of lifted.floors p.block ≡ rise.level) → (rise.lifts ≡ false → lifted ≡ s.columns.levels)
-        → {hs : List Head} {row : List ℕ} → hs ≡ s.columns.heads.items → row ≡ p.dependencies.items → GoesUnder (patches_of hs) (s.numbers + 1) row a
-        → {gs : List Head} {row : List ℕ} {grown_needs : Needing} → gs ≡ s.columns.heads.items → row ≡ p.dependencies.items → IsPut (patches_of gs) s.needs.block row p.told.grade s.needs.lists grown_needs.lists
+        → {hs : List Head} {row : List ℕ} → hs ≡ s.columns.heads.list.items → row ≡ p.dependencies.items → GoesUnder (patches_of hs) (s.numbers + 1) row a
+        → {gs : List Head} {row : List ℕ} {grown_needs : Needing} → gs ≡ s.columns.heads.list.items → row ≡ p.dependencies.items → IsPut (patches_of gs) s.needs.block row p.told.grade s.needs.lists grown_needs.lists
         → IsNoted (s.numbers + 1) p.told.end s.needs.ways grown_needs.ways
         → {lists' : Vec (Vec Listed)} → shelved lists'.items ≡ set (shelved s.lists.items) p.block (get_or (shelved s.lists.items) p.block [] ++ entry_of (record { number = s.numbers + 1; span = p.span }) ∷ [])
         → {cover cover' : Covering} {covers' : Vec Covering} → cover ≡ get_or s.covers.items p.block cover → IsCovered cover p.span.at p.span.len (s.numbers + 1) cover' → covers'.items ≡ set s.covers.items p.block cover'
@@ -209,7 +222,7 @@ module _ {s : Inside} (S : AreSound s) where
         let W = walked_sound S {walked = walked walk places} (record { long = long ∙ ap length same; crossed = omega (arith, (walked walk places).up.crossed.ok.0, s.columns.ends.up.crossed.ok.0, as_many_places S) }) (over_down S) in
         let nodes = P.nodes in
         let none : Standing = record { ready = 0; held = 0; flying = 0 } in
-        let patches = put_patches s.columns.heads.items columns.heads.items made nodes in
+        let patches = put_patches s.columns.heads.list.items columns.heads.list.items made nodes in
         let as_long : length walk.marks ≡ length s.columns.ends.up.walk.marks = omega (arith, long, ap length same, as_many_marks S) in
         record {
           keeps = rw (patches, P.marks.0) (keeps_walked (omega (arith, as_long, length_push walk.marks false, length_push s.columns.ends.up.walk.marks false)) D.keeps);
@@ -217,7 +230,7 @@ module _ {s : Inside} (S : AreSound s) where
           tallies = rw (nodes, listed, enters none, pends) (tallies_wider _ (s.numbers + 1) s.blocks _ _ _ _ _ _ (D.tallies none) P.waiting P.wide);
           covered = rw (patches, covers_are) (covered_made s.numbers p.told.grade D.ready.depends S.covered D.ready.inside cover_is covered);
           along = along_grown {old = walked walk places} P.marks P.crossed W.along;
-          leveled = rw patches (leveled_change p rise (numbers_met s.columns.heads.items walk) S.keeps.lawful.one_place_each D.given (risen walk same named R) (rw (← at, ← S.leveled.long) leveled) below lifted still (rw (← there, ← after) under) P.ranks P.floors);
+          leveled = rw patches (leveled_change p rise (numbers_met s.columns.heads.list.items walk) S.keeps.lawful.one_place_each D.given (risen walk same named R) (rw (← at, ← S.leveled.long) leveled) below lifted still (rw (← there, ← after) under) P.ranks P.floors);
           needing = rw patches (needing_change p S.keeps.lawful D.keeps.lawful S.given S.needing (rw (← D.prepared.needed.0, ← gs, ← row) put) noted D.ready.back);
           given = given_more old s.numbers s.needs.ways _ p S.keeps.lawful.one_place_each S.given noted D.ready.back;
           none_below = rw (enters none) (none_below_set s.standings.items s.unmarked least p.block _ S.none_below low here);

@@ -129,7 +129,7 @@ around_kept new old e p room = (room_above new old e p.dependencies.items room.0
     below None r = tt
     below (Some x) r = room_below new old e x.tail r
 
-pub places_kept : {old new : Columns} → new.heads.len ≡ old.heads.len → new.heads.cap ≡ old.heads.cap → new.ends ≡ old.ends → (length new.levels.ranks ≡ length old.levels.ranks) × (new.levels.room ≡ old.levels.room) → HasPlaces 1 old → HasPlaces 1 new
+pub places_kept : {old new : Columns} → new.heads.list.len ≡ old.heads.list.len → new.heads.list.cap ≡ old.heads.list.cap → new.ends ≡ old.ends → (length new.levels.ranks ≡ length old.levels.ranks) × (new.levels.room ≡ old.levels.room) → HasPlaces 1 old → HasPlaces 1 new
 places_kept len cap ends ranks room = record {
   heads_free = omega (arith, len, cap, room.heads_free);
   marks_free = rw ends room.marks_free;

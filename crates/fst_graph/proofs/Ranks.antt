@@ -4,7 +4,6 @@ use Rattle.std.proofs.lemmas.Bool.{cases_Bool}
 use Rattle.fst_types.specs.{Facts.HasOnePlaceEach, Patches.{Patch, IsOn, IsHard, IsOpenGate}}
 use Rattle.fst_types.specs.declared.grade.Grade.TheVariants as grade
 use Rattle.fst_types.proofs.Alike.{Alike}
-use Rattle.fst_heads.specs.{Heads.patches_of, declared.head.Head.Head}
 use Rattle.std.proofs.lemmas.List.{length_push}
 use Rattle.fst_graph.specs.{Ready.change_of, Sound.AreAlong, declared.prepared.Prepared.Prepared as Stored}
 use Rattle.fst_levels.specs.{Ancestors.GoesUnder, Leveling.{IsLeveled, Leveling, level_of, floor_of, top_level}, Lifting.IsRise, declared.levels.{Ancestry.Ancestry, Rise.Rise}}
@@ -16,8 +15,8 @@ pub leveled_as : {patches : List Patch} {blocks : ℕ} {levels ranked : Leveling
 leveled_as ranks floors L = record { aligned = rw ranks L.aligned; long = rw floors L.long; leveled = rw (ranks, floors) L.leveled; parents = rw ranks L.parents; jumps = rw ranks L.jumps; overs = rw ranks L.overs }
 
 -- or seen by heads that are handed on
-pub leveled_then : {seen heads : List Head} {many blocks : ℕ} {levels : Leveling} → seen ≡ heads → many ≡ blocks → IsLeveled (patches_of seen) many levels → IsLeveled (patches_of heads) blocks levels
-leveled_then {heads = heads} {many = many} {levels = levels} h e L = subst (λ n. IsLeveled (patches_of heads) n levels) e (subst (λ hs. IsLeveled (patches_of hs) many levels) h L)
+pub leveled_then : {patches : List Patch} {many blocks : ℕ} {levels : Leveling} → many ≡ blocks → IsLeveled patches many levels → IsLeveled patches blocks levels
+leveled_then {patches = patches} {levels = levels} e L = subst (λ n. IsLeveled patches n levels) e L
 
 pub leveled_moved : {old new : List Patch} {blocks : ℕ} {levels : Leveling} → Alike old new → IsLeveled old blocks levels → IsLeveled new blocks levels
 leveled_moved {old} {new} {blocks} {levels} A L = alike_is_leveled old new A blocks levels L

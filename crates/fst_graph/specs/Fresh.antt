@@ -11,6 +11,10 @@ use Rattle.fst_graph.specs.declared.fresh.Fresh.{Fresh}
 abbrev pub patch_from : Fresh → Patch
 patch_from f = record { number = f.number; kind = kind_of f.kind; place = f.place; dependencies = f.dependencies.items }
 
+-- each of them has a lower number
+abbrev pub IsNewest : ℕ → List Patch → Type 0
+IsNewest number patches = (p : Patch) → Contains patches p → p.number < number
+
 -- the nodes with a new patch, which is a dependant of those that it depends on
 abbrev pub nodes_with : List Node → Patch → List Node
 nodes_with nodes p =
@@ -29,14 +33,14 @@ pub record MayAdd (heads : List Patch) (numbers : ℕ) (p : Patch) : Type 0 wher
 
 -- so many more heads have a place, but in the queue
 pub record HasPlaces (more : ℕ) (c : Columns) : Type 0 where
-  pub heads_free : vec_len c.heads + more ≤ vec_capacity c.heads
+  pub heads_free : vec_len c.heads.list + more ≤ vec_capacity c.heads.list
   pub marks_free : length c.ends.up.walk.marks + more ≤ c.ends.up.walk.room
   pub below_free : length c.ends.down.walk.marks + more ≤ c.ends.down.walk.room
   pub ranks_free : length c.levels.ranks + more ≤ c.levels.room
 
 -- nothing but room changes, and the queue gets no less
 pub record IsRoomier (old new : Columns) : Type 0 where
-  pub nodes : nodes_of new.heads.items ≡ nodes_of old.heads.items
+  pub nodes : nodes_of new.heads.list.items ≡ nodes_of old.heads.list.items
   pub marks : (new.ends.up.walk.marks ≡ old.ends.up.walk.marks) × (new.ends.down.walk.marks ≡ old.ends.down.walk.marks)
   pub crossed : (new.ends.up.crossed ≡ old.ends.up.crossed) × (new.ends.down.crossed ≡ old.ends.down.crossed)
   pub ranks : new.levels.ranks ≡ old.levels.ranks
@@ -46,7 +50,7 @@ pub record IsRoomier (old new : Columns) : Type 0 where
 
 -- patch p comes last, with that rank
 pub record HasOneMore (p : Patch) (rank : Rank) (old new : Columns) : Type 0 where
-  pub nodes : nodes_of new.heads.items ≡ nodes_with (nodes_of old.heads.items) p
+  pub nodes : nodes_of new.heads.list.items ≡ nodes_with (nodes_of old.heads.list.items) p
   pub marks : (new.ends.up.walk.marks ≡ old.ends.up.walk.marks ++ false ∷ []) × (new.ends.down.walk.marks ≡ old.ends.down.walk.marks ++ false ∷ [])
   pub crossed : (new.ends.up.crossed ≡ old.ends.up.crossed) × (new.ends.down.crossed ≡ old.ends.down.crossed)
   pub ranks : new.levels.ranks ≡ old.levels.ranks ++ rank ∷ []
@@ -58,12 +62,12 @@ pub record HasOneMore (p : Patch) (rank : Rank) (old new : Columns) : Type 0 whe
 pub record IsAdded (p : Patch) (old new : Columns) : Type 0 where
   pub level : ℕ
   pub ancestry : Ancestry
-  pub under : GoesUnder (patches_of old.heads.items) p.number p.dependencies ancestry
+  pub under : GoesUnder (patches_of old.heads.list.items) p.number p.dependencies ancestry
   pub head : HasOneMore p (record { number = p.number; level = level; ancestry = ancestry; hard_over = 0 }) old new
   pub over : (q : ℕ) → Contains p.dependencies q → level_of old.levels.ranks q ≤ top_level → level_of old.levels.ranks q ≤ level
   pub most : level ≤ top_level
   pub top : IsOpenGate p → level ≡ top_level
-  pub free : vec_len old.heads < vec_capacity new.queue
+  pub free : vec_len old.heads.list < vec_capacity new.queue
 
 -- two gates are added, the second of which depends on the first
 pub record AddsTwo (numbers : ℕ) (old new : Columns) : Type 0 where

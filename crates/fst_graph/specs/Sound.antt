@@ -15,7 +15,7 @@ remembered_of heads = remembered (is_forgotten_in (nodes_of heads)) (patches_of 
 
 -- what contracts see
 abbrev pub view_of : Inside → Known
-view_of s = record { heads = remembered_of s.columns.heads.items; numbers = s.numbers; blocks = s.blocks; groups = []; prepared = option_map (prepared_of s.numbers) s.prepared }
+view_of s = record { heads = remembered_of s.columns.heads.list.items; numbers = s.numbers; blocks = s.blocks; groups = []; prepared = option_map (prepared_of s.numbers) s.prepared }
 
 -- so many are forgotten, of the others there are no more than there may be heads, and those that landed are told, with a place for each head and for what is prepared
 pub record AreRemembered (heads : List Head) (landed : Vec ℕ) (forgotten : ℕ) (stored : Option Stored) : Type 0 where
@@ -32,23 +32,23 @@ pub record AreAlong (ends : Ends) : Type 0 where
 
 -- a change that is prepared is not refused, and whatever it is put into has a free place for it
 pub record IsPrepared (s : Inside) (p : Stored) : Type 0 where
-  pub ready : MayBePut (patches_of s.columns.heads.items) (remembered_of s.columns.heads.items) s.numbers s.blocks p
+  pub ready : MayBePut (patches_of s.columns.heads.list.items) (remembered_of s.columns.heads.list.items) s.numbers s.blocks p
   pub places : HasPlaces 1 s.columns
-  pub waits : vec_len s.columns.heads < vec_capacity s.columns.queue
-  pub around : HasRoomAround s.columns.heads.items p
+  pub waits : vec_len s.columns.heads.list < vec_capacity s.columns.queue
+  pub around : HasRoomAround s.columns.heads.list.items p
   pub runs : (d : Covering) → HasRoomForRuns (slice_index_or s.covers.items p.block d)
   pub in_list : HasRoomInList (map (λ l. vec_len l) s.lists.items) (map (λ l. vec_capacity l) s.lists.items) p.block
   pub needed : (s.needs.block ≡ p.block) × (length p.dependencies.items ≤ s.needs.room)
 
 -- the heads are lawful patches, what stands beside them tells of them, and there is room for what is prepared
 pub record AreSound (s : Inside) : Type 0 where
-  pub keeps : Keeps (patches_of s.columns.heads.items) s.numbers s.blocks s.columns.ends.up.walk.marks
-  pub beside : Beside (patches_of s.columns.heads.items) s.blocks s.live s.columns.ends.up.crossed.items
-  pub tallies : Tallies (nodes_of s.columns.heads.items) s.numbers s.blocks (map (λ l. entries_of l.items) s.lists.items) s.standings.items s.columns.queue.items (vec_capacity s.columns.queue)
-  pub covered : AreCovered (patches_of s.columns.heads.items) s.blocks s.covers.items
+  pub keeps : Keeps (patches_of s.columns.heads.list.items) s.numbers s.blocks s.columns.ends.up.walk.marks
+  pub beside : Beside (patches_of s.columns.heads.list.items) s.blocks s.live s.columns.ends.up.crossed.items
+  pub tallies : Tallies (nodes_of s.columns.heads.list.items) s.numbers s.blocks (map (λ l. entries_of l.items) s.lists.items) s.standings.items s.columns.queue.items (vec_capacity s.columns.queue)
+  pub covered : AreCovered (patches_of s.columns.heads.list.items) s.blocks s.covers.items
   pub along : AreAlong s.columns.ends
-  pub leveled : IsLeveled (patches_of s.columns.heads.items) s.blocks s.columns.levels
-  pub needing : IsNeeding (patches_of s.columns.heads.items) s.blocks s.needs
+  pub leveled : IsLeveled (patches_of s.columns.heads.list.items) s.blocks s.columns.levels
+  pub needing : IsNeeding (patches_of s.columns.heads.list.items) s.blocks s.needs
   pub given : HaveGivenEnds s.numbers s.needs.ways
   pub none_below : NoneBelow s.standings.items s.unmarked
   pub prepared : IfSome s.prepared (IsPrepared s)

@@ -6,15 +6,16 @@ ghost use Rattle.fst_types.specs.Facts.{SparseAreLawful};
 ghost use Rattle.fst_types.specs.Limits.{max_heads, max_number};
 ghost use Rattle.fst_types.specs.Patches.{IsOpenGate, Patch};
 ghost use Rattle.fst_heads.specs.Frames.{HasRoomBelow};
-ghost use Rattle.fst_heads.specs.Heads.{IsRising, kind_of, patches_of};
+ghost use Rattle.fst_heads.specs.Heads.{kind_of, patches_of};
 ghost use Rattle.fst_heads.specs.Nodes.{HasRoomAbove, nodes_of, pending_in};
 ghost use Rattle.fst_heads.specs.Pendings.{joined, of_kind};
 ghost use Rattle.fst_heads.specs.Spreading.{is_waiting};
-ghost use Rattle.fst_graph.specs.Fresh.{patch_from, HasPlaces, AddsTwo, HasOneMore, IsAdded, IsRoomier};
+ghost use Rattle.fst_graph.specs.Fresh.{patch_from, HasPlaces, AddsTwo, HasOneMore, IsAdded, IsNewest, IsRoomier};
 ghost use Rattle.fst_levels.specs.Leveling.{IsLeveled, level_of, no_ancestry, top_level};
 
 use crate::fresh::{Fresh, gate, pending_over, row_of};
 use fst_heads::head::{Head, Kind};
+use fst_heads::heads::Heads;
 use fst_heads::links::{link, reserve_above};
 use fst_heads::pending::Pending;
 use fst_heads::row::row_sums;
@@ -28,7 +29,7 @@ use std::alloc::{AllocError, Global};
 /// dependants are to be notified.
 #[derive(Drop)]
 pub struct Columns {
-    pub heads: Vec<Head>,
+    pub heads: Heads,
     pub ends: Ends,
     pub levels: Levels,
     pub queue: Vec<u32>,
@@ -47,9 +48,8 @@ fn at_the_top(number: u32) -> Rank
 }
 
 // How high a new patch stands that is no change.
-fn level_over(levels: &Levels, heads: &[Head], fresh: &Fresh) -> u32
-    requires rising { IsRising heads.now }
-    requires aligned { map (λ r. r.number) levels.now.ranks ≡ map (λ p. p.number) (patches_of heads.now) }
+fn level_over(levels: &Levels, heads: &Heads, fresh: &Fresh) -> u32
+    requires aligned { map (λ r. r.number) levels.now.ranks ≡ map (λ p. p.number) (patches_of heads.now.list.items) }
     ensures over { (q : ℕ) → Contains fresh.now.dependencies.items q → level_of levels.now.ranks q ≤ top_level → level_of levels.now.ranks q ≤ result }
     ensures top { IsOpenGate (patch_from fresh.now) → result ≡ top_level }
 {
@@ -64,36 +64,36 @@ fn level_over(levels: &Levels, heads: &[Head], fresh: &Fresh) -> u32
 impl Columns {
     /// Room for so many heads more, and nothing else.
     pub fn reserve(&mut self, more: u32) -> Result<(), AllocError>
-        ensures same { self.new.heads.items ≡ self.old.heads.items }
+        ensures same { self.new.heads.list.items ≡ self.old.heads.list.items }
         ensures roomier { IsRoomier self.old self.new }
         ensures places { OnOk result (HasPlaces more self.new) }
-        ensures queue { OnOk result (vec_len self.new.heads + more ≤ vec_capacity self.new.queue) }
+        ensures queue { OnOk result (vec_len self.new.heads.list + more ≤ vec_capacity self.new.queue) }
     {
-        self.heads.reserve(more as usize)?;
+        self.heads.list.reserve(more as usize)?;
         self.ends.reserve(more)?;
         self.levels.reserve(more)?;
-        self.queue.reserve(self.heads.len() + more as usize)
+        self.queue.reserve(self.heads.list.len() + more as usize)
     }
 
     /// Puts down the head of a new patch with that rank, for which there is room, and answers what is pending of it.
     pub fn put_down(&mut self, alloc: Global, fresh: Fresh, rank: Rank) -> Pending
-        requires rising { IsRising self.old.heads.items }
+        requires newest { IsNewest fresh.number (patches_of self.old.heads.list.items) }
         requires once { IsStrictlyIncreasing fresh.dependencies.items }
-        requires above { HasRoomAbove self.old.heads.items fresh.dependencies.items }
+        requires above { HasRoomAbove self.old.heads.list.items fresh.dependencies.items }
         requires places { HasPlaces 1 self.old }
-        requires few { count_by is_waiting (nodes_of self.old.heads.items) ≤ max_heads }
+        requires few { count_by is_waiting (nodes_of self.old.heads.list.items) ≤ max_heads }
         ensures put { HasOneMore (patch_from fresh) rank self.old self.new }
-        ensures pending { result ≡ of_kind (kind_of fresh.kind) fresh.place (joined (pending_in (nodes_of self.old.heads.items)) fresh.dependencies.items) }
-        ensures len { vec_len self.new.heads ≡ vec_len self.old.heads + 1 }
+        ensures pending { result ≡ of_kind (kind_of fresh.kind) fresh.place (joined (pending_in (nodes_of self.old.heads.list.items)) fresh.dependencies.items) }
+        ensures len { vec_len self.new.heads.list ≡ vec_len self.old.heads.list + 1 }
         ensures places { (more : ℕ) → HasPlaces (more + 1) self.old → HasPlaces more self.new }
-        ensures below { (n : ℕ) → n ≢ fresh.number → HasRoomBelow self.old.heads.items n → HasRoomBelow self.new.heads.items n }
-        ensures above { ((p : Patch) → Contains (patches_of self.old.heads.items) p → p.number ≢ fresh.number) → HasRoomAbove self.new.heads.items (fresh.number ∷ []) }
+        ensures below { (n : ℕ) → n ≢ fresh.number → HasRoomBelow self.old.heads.list.items n → HasRoomBelow self.new.heads.list.items n }
+        ensures above { HasRoomAbove self.new.heads.list.items (fresh.number ∷ []) }
     {
         let row = fresh.dependencies.as_slice();
         let sums = row_sums(&self.heads, row);
         let pending = pending_over(&fresh, sums.joined());
         link(&mut self.heads, row, fresh.number);
-        self.heads.push_reserved(Head {
+        self.heads.list.push_reserved(Head {
             number: fresh.number,
             kind: fresh.kind,
             place: fresh.place,
@@ -110,11 +110,11 @@ impl Columns {
 
     /// Makes room for a new patch that is no change, and puts its head down.
     pub fn add_one(&mut self, alloc: Global, fresh: Fresh) -> Result<(), AllocError>
-        requires rising { IsRising self.old.heads.items }
+        requires newest { IsNewest fresh.number (patches_of self.old.heads.list.items) }
         requires once { IsStrictlyIncreasing fresh.dependencies.items }
-        requires leveled { IsLeveled (patches_of self.old.heads.items) (length self.old.levels.floors) self.old.levels }
+        requires leveled { IsLeveled (patches_of self.old.heads.list.items) (length self.old.levels.floors) self.old.levels }
         requires given { 0 < fresh.number }
-        requires few { count_by is_waiting (nodes_of self.old.heads.items) ≤ max_heads }
+        requires few { count_by is_waiting (nodes_of self.old.heads.list.items) ≤ max_heads }
         ensures added { OnOk result (IsAdded (patch_from fresh) self.old self.new) }
         ensures roomier { OnErr result (IsRoomier self.old self.new) }
     {
@@ -138,9 +138,9 @@ impl Columns {
     /// Makes room for two new gates, and puts their heads down. They have the next two numbers, and the second depends on the
     /// first.
     pub fn add_two(&mut self, alloc: Global, numbers: u32) -> Result<(), AllocError>
-        requires lawful { SparseAreLawful (patches_of self.old.heads.items) numbers }
+        requires lawful { SparseAreLawful (patches_of self.old.heads.list.items) numbers }
         requires given { numbers + 2 ≤ max_number }
-        requires few { count_by is_waiting (nodes_of self.old.heads.items) < max_heads }
+        requires few { count_by is_waiting (nodes_of self.old.heads.list.items) < max_heads }
         ensures added { OnOk result (AddsTwo numbers self.old self.new) }
         ensures roomier { OnErr result (IsRoomier self.old self.new) }
     {

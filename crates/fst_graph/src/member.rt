@@ -7,7 +7,7 @@ ghost use Rattle.fst_types.specs.Facts.{SparseAreLawful};
 ghost use Rattle.fst_types.specs.Gates.{IsOpenNumber};
 ghost use Rattle.fst_types.specs.Patches.{Patch};
 ghost use Rattle.fst_heads.specs.Grading.{MayBeHard};
-ghost use Rattle.fst_heads.specs.Heads.{IsRising, patches_of};
+ghost use Rattle.fst_heads.specs.Heads.{patches_of};
 ghost use Rattle.fst_heads.specs.Names.{numbers_of};
 ghost use Rattle.fst_graph.specs.Membering.{BeginsAs};
 ghost use Rattle.fst_heads.specs.Nodes.{nodes_of, AreCounted};
@@ -17,8 +17,7 @@ ghost use Rattle.fst_levels.specs.Sights.{Sees};
 ghost use Rattle.fst_walks.specs.Telling.{IsTold};
 
 use crate::prepared::{Gates, Prepared, copy_of};
-use fst_heads::head::Head;
-use fst_heads::index::index_of;
+use fst_heads::heads::Heads;
 use fst_heads::sparse::{Wanted, sparse_row};
 use fst_heads::test::Test;
 use fst_levels::shortcuts::passes_at;
@@ -31,8 +30,8 @@ use std::alloc::{AllocError, Global};
 // The number, if it is that of an open gate.
 fn if_open(sight: &Sight<'_>, number: u32) -> Option<u32>
     requires { Sees sight.now }
-    ensures some { IfSome result (λ n. (n ≡ number) × IsOpenNumber (patches_of sight.now.heads.now) number) }
-    ensures none { IfNone result (IsOpenNumber (patches_of sight.now.heads.now) number → ⊥) }
+    ensures some { IfSome result (λ n. (n ≡ number) × IsOpenNumber (patches_of sight.now.heads.now.list.items) number) }
+    ensures none { IfNone result (IsOpenNumber (patches_of sight.now.heads.now.list.items) number → ⊥) }
 {
     if passes_at(sight, Test::Open, number) {
         Some(number)
@@ -42,14 +41,13 @@ fn if_open(sight: &Sight<'_>, number: u32) -> Option<u32>
 }
 
 // Whether all that the patch with the number directly depends on is on disk.
-fn rests(heads: &[Head], number: u32) -> bool
-    requires rising { IsRising heads.now }
-    requires counted { AreCounted (nodes_of heads.now) }
-    ensures rests { IsTrue result → (q : ℕ) → DirectlyOn (patches_of heads.now) number q → IsOnDisk (patches_of heads.now) q }
-    ensures waits { result ≡ false → (q : ℕ) × DirectlyOn (patches_of heads.now) number q × IsLiveNumber (patches_of heads.now) q }
+fn rests(heads: &Heads, number: u32) -> bool
+    requires counted { AreCounted (nodes_of heads.now.list.items) }
+    ensures rests { IsTrue result → (q : ℕ) → DirectlyOn (patches_of heads.now.list.items) number q → IsOnDisk (patches_of heads.now.list.items) q }
+    ensures waits { result ≡ false → (q : ℕ) × DirectlyOn (patches_of heads.now.list.items) number q × IsLiveNumber (patches_of heads.now.list.items) q }
 {
-    match index_of(heads, number) {
-        Some(index) => heads[index].sums.count == 0,
+    match heads.index_of(number) {
+        Some(index) => heads.list[index].sums.count == 0,
         None => true,
     }
 }
@@ -63,20 +61,20 @@ pub fn prepare_member(
     span: Span,
     gates: Gates,
 ) -> Result<Prepared, AllocError>
-    requires lawful { (numbers : ℕ) × SparseAreLawful (patches_of sight.now.heads.now) numbers }
-    requires counted { AreCounted (nodes_of sight.now.heads.now) }
+    requires lawful { (numbers : ℕ) × SparseAreLawful (patches_of sight.now.heads.now.list.items) numbers }
+    requires counted { AreCounted (nodes_of sight.now.heads.now.list.items) }
     requires sees { Sees sight.now }
-    requires up { IsOver sight.now.heads.now (length sight.now.lists.now) ends.old.up }
-    requires down { IsOver sight.now.heads.now (length sight.now.lists.now) ends.old.down }
+    requires up { IsOver sight.now.heads.now.list.items (length sight.now.lists.now) ends.old.up }
+    requires down { IsOver sight.now.heads.now.list.items (length sight.now.lists.now) ends.old.down }
     requires block { block < length sight.now.lists.now }
     ensures block { IfOk result (λ p. p.block ≡ block) }
     ensures span { IfOk result (λ p. p.span ≡ span) }
     ensures names { IfOk result (λ p. numbers_of p.names.items ≡ gates.head ∷ []) }
     ensures gates { IfOk result (λ p. p.gates ≡ Some gates) }
-    ensures depends { IfOk result (λ p. (begun : List Patch) → BeginsAs (patches_of sight.now.heads.now) gates.head begun → IsSparseRow begun (gates.head ∷ []) block span.at span.len p.dependencies.items) }
-    ensures told { IfOk result (λ p. (begun : List Patch) → BeginsAs (patches_of sight.now.heads.now) gates.head begun → IsTold begun block p.dependencies.items (MayBeHard begun None block p.dependencies.items) p.told) }
-    ensures up { IsOver sight.now.heads.now (length sight.now.lists.now) ends.new.up }
-    ensures down { IsOver sight.now.heads.now (length sight.now.lists.now) ends.new.down }
+    ensures depends { IfOk result (λ p. (begun : List Patch) → BeginsAs (patches_of sight.now.heads.now.list.items) gates.head begun → IsSparseRow begun (gates.head ∷ []) block span.at span.len p.dependencies.items) }
+    ensures told { IfOk result (λ p. (begun : List Patch) → BeginsAs (patches_of sight.now.heads.now.list.items) gates.head begun → IsTold begun block p.dependencies.items (MayBeHard begun None block p.dependencies.items) p.told) }
+    ensures up { IsOver sight.now.heads.now.list.items (length sight.now.lists.now) ends.new.up }
+    ensures down { IsOver sight.now.heads.now.list.items (length sight.now.lists.now) ends.new.down }
 {
     let heads = sight.heads;
     let names = [PatchNo(gates.head)];

@@ -106,17 +106,17 @@ pub fn prepare(
     names: &[PatchNo],
 ) -> Result<Prepared, AllocError>
     requires sees { Sees sight.now }
-    requires up { IsOver sight.now.heads.now (length sight.now.lists.now) ends.old.up }
-    requires down { IsOver sight.now.heads.now (length sight.now.lists.now) ends.old.down }
+    requires up { IsOver sight.now.heads.now.list.items (length sight.now.lists.now) ends.old.up }
+    requires down { IsOver sight.now.heads.now.list.items (length sight.now.lists.now) ends.old.down }
     requires block { block < length sight.now.lists.now }
     ensures block { IfOk result (λ p. p.block ≡ block) }
     ensures span { IfOk result (λ p. p.span ≡ span) }
     ensures names { IfOk result (λ p. p.names.items ≡ names.now) }
-    ensures depends { IfOk result (λ p. IsSparseRow (patches_of sight.now.heads.now) (numbers_of names.now) block span.at span.len p.dependencies.items) }
-    ensures told { IfOk result (λ p. IsTold (patches_of sight.now.heads.now) block p.dependencies.items (MayBeHard (patches_of sight.now.heads.now) None block p.dependencies.items) p.told) }
+    ensures depends { IfOk result (λ p. IsSparseRow (patches_of sight.now.heads.now.list.items) (numbers_of names.now) block span.at span.len p.dependencies.items) }
+    ensures told { IfOk result (λ p. IsTold (patches_of sight.now.heads.now.list.items) block p.dependencies.items (MayBeHard (patches_of sight.now.heads.now.list.items) None block p.dependencies.items) p.told) }
     ensures gates { IfOk result (λ p. p.gates ≡ None) }
-    ensures up { IsOver sight.now.heads.now (length sight.now.lists.now) ends.new.up }
-    ensures down { IsOver sight.now.heads.now (length sight.now.lists.now) ends.new.down }
+    ensures up { IsOver sight.now.heads.now.list.items (length sight.now.lists.now) ends.new.up }
+    ensures down { IsOver sight.now.heads.now.list.items (length sight.now.lists.now) ends.new.down }
 {
     let kept = match copy_of(alloc, names) {
         Ok(kept) => kept,

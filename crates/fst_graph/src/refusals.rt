@@ -49,11 +49,11 @@ pub fn make_fault(standing: usize, numbers: u32, after: &[PatchNo]) -> Option<Fa
 /// Whether a change that one with this span overlaps depends on the tail of a group, so that the group cannot have it.
 pub fn reaches_tail(sight: &Sight<'_>, ends: &mut Ends, tail: u32, block: u32, span: Span) -> bool
     requires sees { Sees sight.now }
-    requires over { AreOver sight.now.heads.now ends.old }
+    requires over { AreOver sight.now.heads.now.list.items ends.old }
     requires block { block < length sight.now.lists.now }
-    requires is_open { IsOpenNumber (patches_of sight.now.heads.now) tail }
-    ensures reaches { IsTrue result ↔ OverlapReaches (patches_of sight.now.heads.now) tail block span.at span.len }
-    ensures over { AreOver sight.now.heads.now ends.new }
+    requires is_open { IsOpenNumber (patches_of sight.now.heads.now.list.items) tail }
+    ensures reaches { IsTrue result ↔ OverlapReaches (patches_of sight.now.heads.now.list.items) tail block span.at span.len }
+    ensures over { AreOver sight.now.heads.now.list.items ends.new }
     ensures crossed { (ends.new.up.crossed ≡ ends.old.up.crossed) × (ends.new.down.crossed ≡ ends.old.down.crossed) }
 {
     overlap_reaches(sight, ends, tail, block, span)

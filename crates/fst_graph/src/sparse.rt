@@ -25,6 +25,7 @@ use crate::prepared::{Prepared, let_go};
 use fst_heads::cascade::{cascade, seal_at};
 use fst_heads::choice::{first_held, ready_set};
 use fst_heads::cover::{Cover, empty_covers};
+use fst_heads::heads::Heads;
 use fst_heads::launch::launch;
 use fst_heads::lists::{Listed, empty_lists, land_block};
 use fst_heads::places::block_of;
@@ -74,7 +75,7 @@ impl Model for Sparse {
 
     ghost view = { view_of };
 
-    ghost invariant = { λ s. AreSound s × AreRemembered s.columns.heads.items s.landed s.forgotten s.prepared };
+    ghost invariant = { λ s. AreSound s × AreRemembered s.columns.heads.list.items s.landed s.forgotten s.prepared };
 }
 
 impl Sparse {
@@ -105,7 +106,9 @@ impl Sparse {
         Ok(Sparse {
             alloc,
             columns: Columns {
-                heads: Vec::new(alloc),
+                heads: Heads {
+                    list: Vec::new(alloc),
+                },
                 ends,
                 levels,
                 queue: Vec::new(alloc),
@@ -135,7 +138,7 @@ impl Sparse {
     pub(crate) fn standing(&self) -> usize
         ensures { result ≡ length self.now.heads }
     {
-        self.columns.heads.len() - self.forgotten
+        self.columns.heads.list.len() - self.forgotten
     }
 
     /// How many patches are not on disk. It takes no memory.
@@ -153,7 +156,7 @@ impl Sparse {
             return None;
         }
         match self.columns.levels.find(&self.columns.heads, no.0) {
-            Some(index) => Some(self.columns.heads[index].place),
+            Some(index) => Some(self.columns.heads.list[index].place),
             None => Some(Place::Disk),
         }
     }

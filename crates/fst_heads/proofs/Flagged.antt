@@ -3,7 +3,7 @@ use Rattle.fst_heads.proofs.Basics.{◌≡◌, ◌≢◌, ◌<◌, ◌+◌, ◌=
 use Rattle.fst_heads.proofs.Patches.{is_among, is_live, among_in, in_among, filter_in, in_filter, In, In-map, In-unmap, In-from_Contains, Contains-from_In}
 use Rattle.fst_heads.proofs.Words.{Head, IsRising, HasIndex, HasNone, Node, node_of, nodes_of, patches_in, at_number, is_pending, is_waiting, is_forgotten_in, AreSettled, AreLanded, flags, is_landed}
 use Rattle.fst_heads.proofs.{AtNumber.{at_index, at_none, at_other, at_same}, Beside.{is_nothing, waiting_is}, CountsAs.{count_cons, count_map, count_nothing}, Indices.rising_map}
-use Rattle.fst_heads.proofs.{Linking.{map_twice, rising_as}, Placed.{among_append, map_alike, unmapped}, Waiting.{once_fits, same_node}}
+use Rattle.fst_heads.proofs.{Linking.{map_twice}, Placed.{among_append, map_alike, unmapped}, Waiting.{once_fits, same_node}}
 use Rattle.fst_heads.proofs.Words.pending
 
 -- it is forgotten
@@ -50,9 +50,6 @@ step ns n x = grind (arith, flags_number, either, among_append)
 
 pub flagged_more : (nodes : List Node) (ns : List ℕ) (n : ℕ) → map (flags (n ∷ [])) (map (flags ns) nodes) ≡ map (flags (ns ++ n ∷ [])) nodes
 flagged_more nodes ns n = map_twice (flags (n ∷ [])) (flags ns) (flags (ns ++ n ∷ [])) (step ns n) nodes
-
-pub rising_flagged : (new old : List Head) (ns : List ℕ) → nodes_of new ≡ map (flags ns) (nodes_of old) → IsRising old → IsRising new
-rising_flagged new old ns e rising = rising_as (flags ns) (flags_number ns) new old e rising
 
 pub patches_flagged : (nodes : List Node) (ns : List ℕ) → patches_in (map (flags ns) nodes) ≡ patches_in nodes
 patches_flagged [] ns = refl

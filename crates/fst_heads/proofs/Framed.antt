@@ -1,12 +1,17 @@
 -- A head that was changed but for its number and its rows.
-use Rattle.fst_heads.proofs.Basics.{◌≡◌, ◌≢◌, ◌++◌, ℕ, zero, suc, ◌<◌, List, [], ◌∷◌, length, get_or, set, Contains, refl, sym, ap, subst, ◌∙◌, inl, inr, arith, Contains-push_cases, HasRoomFor, rules}
+use Rattle.fst_heads.proofs.Basics.{◌≡◌, ◌≢◌, ◌++◌, ℕ, zero, suc, ◌<◌, List, [], ◌∷◌, length, get_or, set, AllPairs, Contains, refl, sym, ap, subst, ◌∙◌, inl, inr, arith, Contains-push_cases, HasRoomFor, rules}
 use Rattle.fst_heads.proofs.{Patches.{In, In-from_Contains, Contains-from_In}, Words.{Head, frame_of, frames_of, HasRoomBelow, IsRising, HasIndex, HasRoomAbove}}
-use Rattle.fst_heads.proofs.{Linking.set_cases, Indices.{any_default, index_unique}}
+use Rattle.fst_heads.proofs.{Linking.set_cases, Indices.{any_default, index_unique, rising_back, rising_map}}
 
 pub frames_set : (heads : List Head) (s : ℕ) (y d : Head) → s < length heads → frame_of y ≡ frame_of (get_or heads s d) → frames_of (set heads s y) ≡ frames_of heads
 frames_set [] s y d lt e = absurd (omega (arith, lt))
 frames_set (h ∷ hs) zero y d lt e = ap (λ x. x ∷ frames_of hs) e
 frames_set (h ∷ hs) (suc s) y d lt e = ap (λ xs. frame_of h ∷ xs) (frames_set hs s y d (omega (arith, lt)) e)
+
+-- so numbers rise as they did
+pub rising_framed : (new old : List Head) → frames_of new ≡ frames_of old → IsRising old → IsRising new
+rising_framed new old same rising =
+    rising_back frame_of new (λ h. h.number) (λ f. f.0) (λ h. refl) (subst (λ fs. AllPairs (λ x y. x.0 < y.0) fs) (sym same) (rising_map frame_of old (λ h. h.number) (λ f. f.0) (λ h. refl) rising))
 
 -- each of the new heads has the number and the rows of an old one
 framed : (new old : List Head) → frames_of new ≡ frames_of old → (h : Head) → In new h → (k : Head) × In old k × (frame_of h ≡ frame_of k)

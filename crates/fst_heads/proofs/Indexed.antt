@@ -4,7 +4,7 @@ use Rattle.fst_heads.proofs.Basics.{common_steps, length-map, get_or-map, take_m
 use Rattle.fst_heads.proofs.Patches.{is_among, In, In-from_Contains, Contains-from_In, In-map, In-unmap}
 use Rattle.fst_heads.proofs.Words.{Head, Pending, IsRising, HasIndex, HasNone, Node, node_of, nodes_of, at_number, plus, minus, follows, rested, updated, enqueues, notified, enqueued}
 use Rattle.fst_heads.proofs.{AtNumber.{at_same, at_other}, Listing.{any_index, any_none}}
-use Rattle.fst_heads.proofs.Linking.{map_twice, rising_as, none_among, among_push_other, among_push_same}
+use Rattle.fst_heads.proofs.Linking.{map_twice, none_among, among_push_other, among_push_same}
 use Rattle.fst_heads.proofs.Indices.{any_default, some_element, index_head, index_unique, rising_back}
 use Rattle.fst_heads.proofs.Patches.place
 
@@ -121,9 +121,6 @@ row_now start heads row old new s h lt e at =
 pub row_of : (start now : List Head) (row : List ℕ) (old new : Pending) (s : ℕ) (h : Head) → s < length start → nodes_of now ≡ map (notified row old new) (nodes_of start)
     → h ≡ get_or now s h → h.dependants.items ≡ row_at (nodes_of start) s
 row_of start now row old new s h lt e at = row_now (nodes_of start) now row old new s h (omega (arith, lt, length_notified (nodes_of start) now row old new e, length-map start node_of)) e at
-
-pub rising_notified : (start heads : List Head) (row : List ℕ) (old new : Pending) → nodes_of heads ≡ map (notified row old new) (nodes_of start) → IsRising start → IsRising heads
-rising_notified start heads row old new e rising = rising_as (notified row old new) (notified_number row old new) heads start e rising
 
 -- of no row none hears
 pub notified_none : (old new : Pending) (nodes : List Node) → map (notified [] old new) nodes ≡ nodes

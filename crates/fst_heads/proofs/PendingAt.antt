@@ -1,5 +1,5 @@
 -- What is pending of the head at an index, and the node that it stands for.
-use Rattle.fst_heads.proofs.Basics.{◌≡◌, ◌<◌, ◌+◌, ◌++◌, ◌∷◌, [], ℕ, zero, suc, List, length, get_or, take, Contains, refl, sym, ap, subst, ◌∙◌, arith, eq-eqb, ne_eqb, ◌≤◌, drop, take_more, take-append-drop, SmallVec}
+use Rattle.fst_heads.proofs.Basics.{◌≡◌, ◌<◌, ◌+◌, ◌++◌, ◌∷◌, [], ℕ, zero, suc, List, length, get_or, take, Contains, refl, sym, ap, ◌∙◌, arith, eq-eqb, ne_eqb, ◌≤◌, drop, take_more, take-append-drop, SmallVec}
 use Rattle.fst_heads.proofs.Patches.{Contains-from_In, In-map}
 use Rattle.fst_heads.proofs.Words.{Head, Pending, Sums, IsRising, HasIndex, HasNone, Node, node_of, nodes_of, pending_in, gains_names, join, joined, plus, sums_of, together}
 use Rattle.fst_heads.proofs.{Indices.index_head, Indexed.number_in, Sums.{joined_push, sums_append, sums_push}}
@@ -24,11 +24,8 @@ pub node_in : (heads : List Head) (s : ℕ) (h : Head) → s < length heads → 
 node_in heads s h lt e = Contains-from_In (nodes_of heads) _ (In-map node_of heads (get_or heads s h) _ (index_head heads s h lt) (ap node_of (sym e)))
 
 -- and what holds of every node with a number holds of that of the head at its index
-pub holds_at : {P : Node → Type 0} {seen : List Head} (heads : List Head) (n s : ℕ) (h : Head) → seen ≡ heads → HasIndex seen n s → h ≡ get_or heads s h
-    → ((x : Node) → Contains (nodes_of heads) x → x.patch.number ≡ n → P x) → P (node_of h)
-holds_at heads n s h same found e all =
-    let index = subst (λ hs. HasIndex hs n s) same found in
-    all (node_of h) (node_in heads s h index.0 e) (number_in heads n s h index e)
+pub holds_at : {P : Node → Type 0} (heads : List Head) (n s : ℕ) (h : Head) → HasIndex heads n s → h ≡ get_or heads s h → ((x : Node) → Contains (nodes_of heads) x → x.patch.number ≡ n → P x) → P (node_of h)
+holds_at heads n s h index e all = all (node_of h) (node_in heads s h index.0 e) (number_in heads n s h index e)
 
 -- a head with the names besides, and what they add up to
 pub gained_node : (h : Head) (more : SmallVec ℕ) (names : List ℕ) (sums both : Sums) → more.items ≡ h.dependencies.items ++ names → both ≡ together h.sums sums

@@ -2,7 +2,7 @@
 use Rattle.fst_heads.proofs.Basics.{or-false, ◌≡◌, ◌≢◌, ℕ, Bool, true, false, cond, List, [], ◌∷◌, map, filter, AllPairs, Contains, refl, sym, ap, subst, ◌∙◌, inl, inr, cases_Bool, rules, arith, ◌==◌, ◌||◌, ◌++◌, if◌then◌else◌, get_or, set, cases_eq, eq-eqb, ne_eqb}
 use Rattle.fst_heads.proofs.Patches.{Patch, IsLiveNumber, HasOnePlaceEach, is_live, is_among, launched, same_number, In, In-from_Contains, Contains-from_In, In-unmap, among_in, unsettled, Settled, AllSettled, more, all_settled, In-map}
 use Rattle.fst_heads.proofs.Words.{launches, entry, entries_on, is_live_on, Node, patches_in, times, AreLinked, AreGiven, AreDistinct, IsSpreadOf, unspread, Head, IsRising, HasIndex, HasNone, node_of, nodes_of, at_number}
-use Rattle.fst_heads.proofs.{Forgetting.live_place_of, AtNumber.{at_none, at_index, at_same, at_other}, Linking.{map_twice, rising_as}}
+use Rattle.fst_heads.proofs.{Forgetting.live_place_of, AtNumber.{at_none, at_index, at_same, at_other}, Linking.{map_twice}}
 use Rattle.fst_heads.proofs.Patches.place
 
 -- y has the number, the direct dependencies and the dependants of x
@@ -197,6 +197,3 @@ step ns n x = grind (arith, chosen, launches_number, launched_either, among_appe
 
 pub launched_more : (nodes : List Node) (ns : List ℕ) (n : ℕ) → map (launches (n ∷ [])) (map (launches ns) nodes) ≡ map (launches (ns ++ n ∷ [])) nodes
 launched_more nodes ns n = map_twice (launches (n ∷ [])) (launches ns) (launches (ns ++ n ∷ [])) (step ns n) nodes
-
-pub rising_launched : (new old : List Head) (ns : List ℕ) → nodes_of new ≡ map (launches ns) (nodes_of old) → IsRising old → IsRising new
-rising_launched new old ns e rising = rising_as (launches ns) (launches_number ns) new old e rising

@@ -1,16 +1,12 @@
 -- A number is taken from the queue of a cascade: its head is settled, and its dependants are told.
-use Rattle.fst_heads.proofs.Basics.{cond_both, ◌≡◌, ◌≢◌, ◌+◌, ◌<◌, ◌≤◌, ◌==◌, ℕ, false, List, [], ◌∷◌, ◌++◌, length, map, get_or, Contains, AllPairs, length-append, refl, sym, ap, subst, ◌∙◌, arith, length-map, get_or-map}
+use Rattle.fst_heads.proofs.Basics.{◌≡◌, ◌≢◌, ◌+◌, ◌<◌, ◌≤◌, ℕ, false, List, [], ◌∷◌, ◌++◌, length, map, get_or, Contains, AllPairs, length-append, sym, ap, subst, ◌∙◌, arith, length-map, get_or-map}
 use Rattle.fst_heads.proofs.Patches.{IsCascadeOf}
-use Rattle.fst_heads.proofs.Words.{Head, Pending, IsRising, patches_of, HasIndex, Node, node_of, nodes_of, patches_in, at_number, AreLinked, AreDistinct, Fits, max_block, Spreading, IsSpreadOf, CanUpdate, now, is_recorded, recorded, notified, enqueued, pending_in, IsRisenOf}
-use Rattle.fst_heads.proofs.{AtNumber.{at_same, patches_in_nodes}, Linking.rising_as, Indices.some_element, Indexed.{node_at_index, node_is, rising_indices}}
+use Rattle.fst_heads.proofs.Words.{Head, Pending, patches_of, HasIndex, Node, node_of, nodes_of, patches_in, at_number, AreLinked, AreDistinct, Fits, max_block, Spreading, IsSpreadOf, CanUpdate, now, is_recorded, recorded, notified, enqueued, pending_in, IsRisenOf}
+use Rattle.fst_heads.proofs.{AtNumber.{at_same, patches_in_nodes}, Indices.some_element, Indexed.{node_at_index, node_is, rising_indices}}
 use Rattle.fst_heads.proofs.{Starting.cascaded_spread, Carried.{linked_spread, distinct_spread}}
 use Rattle.fst_heads.proofs.Notifying.{spreading_fits, queue_fits, last_waits, live, can_update, spreads_on, spread_of, each_goes, risen, nearer}
 use Rattle.fst_heads.proofs.{Going.OneWay, Waiting.distance}
 use Rattle.fst_heads.proofs.Words.pending
-
--- the heads rise where one was settled
-pub rising_settled : (q : ℕ) (old new : List Head) → nodes_of new ≡ map (at_number q recorded) (nodes_of old) → IsRising old → IsRising new
-rising_settled q old new e rising = rising_as (at_number q recorded) (λ x. cond_both (x.patch.number == q) _ _ (λ (y : Node). y.patch.number ≡ x.patch.number) (λ t. refl) (λ f. refl)) new old e rising
 
 module _ {goes : Pending → Pending → Type 0} {far : Pending → ℕ} (way : OneWay goes far) (heads : List Head) (blocks : ℕ) (queue : List ℕ) (q s : ℕ) (narrow : blocks ≤ max_block)
     (S : Spreading goes (nodes_of heads) blocks (queue ++ q ∷ [])) (linked : AreLinked (nodes_of heads)) (distinct : AreDistinct (nodes_of heads)) (found : HasIndex heads q s) where

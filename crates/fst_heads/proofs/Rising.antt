@@ -1,7 +1,7 @@
 -- A number is taken from the queue of a launch: its head is behind a flight, and its dependants are told.
 use Rattle.fst_heads.proofs.Basics.{◌≡◌, ◌≢◌, ◌≤◌, ◌+◌, ℕ, false, List, [], ◌∷◌, ◌++◌, map, length, get_or, set, AllPairs, Contains, sym, ap, subst, ◌∙◌, inl, arith, get_or-map}
-use Rattle.fst_heads.proofs.Words.{Head, IsRising, HasIndex, Node, node_of, nodes_of, at_number, AreLinked, AreDistinct, max_block, Spreading, CanUpdate, Rises, now, is_recorded, recorded, notified, enqueued}
-use Rattle.fst_heads.proofs.{AtNumber.at_index, Going.{rises_way}, Launching.rises_stale, Popping.{number_there, stale_there, rising_settled, after_is, once_after, updated_after, room_after, Turn, turned}, Indexed.{node_at_index, rising_indices}, Notifying.last_waits}
+use Rattle.fst_heads.proofs.Words.{Head, HasIndex, Node, node_of, nodes_of, at_number, AreLinked, AreDistinct, max_block, Spreading, CanUpdate, Rises, now, is_recorded, recorded, notified, enqueued}
+use Rattle.fst_heads.proofs.{AtNumber.at_index, Going.{rises_way}, Launching.rises_stale, Popping.{number_there, stale_there, once_after, updated_after, room_after, Turn, turned}, Indexed.{node_at_index, rising_indices}, Notifying.last_waits}
 use Rattle.fst_heads.proofs.Words.pending
 
 -- the number of the block is small
@@ -37,12 +37,7 @@ module _ (b : ℕ) (heads : List Head) (blocks : ℕ) (queue : List ℕ) (q s : 
       at_index heads q s recorded (record h { pending = pending.Behind b }) h (rising_indices heads S.rising) found (ap (λ p. node_of (record h { pending = p })) (sym here.1) ∙ ap (λ k. recorded (node_of k)) e)
       ∙ ap (λ n. map (at_number n recorded) (nodes_of heads)) (sym (number_there (rises_way b) heads blocks queue q s narrow S linked distinct found d))
 
-  -- what `tell` asks for
-  pub rising_behind : IsRising behind
-  rising_behind =
-      rising_settled q heads behind (after_is (rises_way b) heads blocks queue q s narrow S linked distinct found (pending.Block b) (pending.Behind b) (nodes_of behind) was is set_behind)
-      (rising_indices heads S.rising)
-
+  -- what `notify` asks for
   pub once_behind : (d : Node) → AllPairs (λ m n. m ≢ n) (get_or (nodes_of behind) s d).dependants
   once_behind = once_after (rises_way b) heads blocks queue q s narrow S linked distinct found (pending.Block b) (pending.Behind b) (nodes_of behind) was is set_behind
 

@@ -6,7 +6,7 @@ ghost use Rattle.std.specs.Prelude.{◌≡◌, ◌≢◌, ◌<◌, ◌≤◌, �
 ghost use Rattle.fst_types.specs.Cascade.{IsCascadeOf};
 ghost use Rattle.fst_heads.specs.declared.pending.Pending.TheVariants as pending;
 ghost use Rattle.fst_heads.specs.Frames.{frame_of, frames_of};
-ghost use Rattle.fst_heads.specs.Heads.{IsRising, kind_of, patches_of};
+ghost use Rattle.fst_heads.specs.Heads.{kind_of, patches_of};
 ghost use Rattle.fst_heads.specs.Landed.{AreLanded};
 ghost use Rattle.fst_heads.specs.Indices.{HasIndex};
 ghost use Rattle.fst_heads.specs.Nodes.{Node, node_of, nodes_of, at_number, AreLinked, AreDistinct, AreSettled};
@@ -15,7 +15,7 @@ ghost use Rattle.fst_heads.specs.Spreading.{follows, rested, is_recorded, now, u
 ghost use Rattle.fst_heads.specs.Standings.{AllStand};
 
 use crate::head::{Head, Kind};
-use crate::index::index_of;
+use crate::heads::Heads;
 use crate::pending::{Pending, is_pending, of_change};
 use crate::standing::{Standing, record_at};
 use fst_types::Place;
@@ -76,19 +76,18 @@ fn update(head: &mut Head, old: Pending, new: Pending) -> bool
 }
 
 // The head with this number is updated, and enqueued where its dependants have to be notified.
-fn update_at(heads: &mut Vec<Head>, queue: &mut Vec<u32>, number: u32, old: Pending, new: Pending)
-    requires rising { IsRising heads.old.items }
-    requires summed { (x : Node) → Contains (nodes_of heads.old.items) x → x.patch.number ≡ number → CanUpdate old x }
+fn update_at(heads: &mut Heads, queue: &mut Vec<u32>, number: u32, old: Pending, new: Pending)
+    requires summed { (x : Node) → Contains (nodes_of heads.old.list.items) x → x.patch.number ≡ number → CanUpdate old x }
     requires live { old ≢ pending.Nothing }
-    requires room { (x : Node) → Contains (nodes_of heads.old.items) x → x.patch.number ≡ number → enqueues old new x ≡ true → vec_len queue.old < vec_capacity queue.old }
-    ensures nodes { nodes_of heads.new.items ≡ map (at_number number (updated old new)) (nodes_of heads.old.items) }
-    ensures queued { queue.new.items ≡ queue.old.items ++ enqueued (number ∷ []) old new (nodes_of heads.old.items) }
-    ensures frames { frames_of heads.new.items ≡ frames_of heads.old.items }
-    ensures places { vec_capacity heads.new ≡ vec_capacity heads.old }
+    requires room { (x : Node) → Contains (nodes_of heads.old.list.items) x → x.patch.number ≡ number → enqueues old new x ≡ true → vec_len queue.old < vec_capacity queue.old }
+    ensures nodes { nodes_of heads.new.list.items ≡ map (at_number number (updated old new)) (nodes_of heads.old.list.items) }
+    ensures queued { queue.new.items ≡ queue.old.items ++ enqueued (number ∷ []) old new (nodes_of heads.old.list.items) }
+    ensures frames { frames_of heads.new.list.items ≡ frames_of heads.old.list.items }
+    ensures places { vec_capacity heads.new.list ≡ vec_capacity heads.old.list }
     ensures capacity { vec_capacity queue.new ≡ vec_capacity queue.old }
 {
-    if let Some(index) = index_of(heads, number) {
-        if update(&mut heads[index], old, new) {
+    if let Some(index) = heads.index_of(number) {
+        if update(&mut heads.list[index], old, new) {
             queue.push_reserved(number);
         }
     }
@@ -96,27 +95,26 @@ fn update_at(heads: &mut Vec<Head>, queue: &mut Vec<u32>, number: u32, old: Pend
 
 // All that directly depend on the head at the index are updated.
 pub(crate) fn notify(
-    heads: &mut Vec<Head>,
+    heads: &mut Heads,
     queue: &mut Vec<u32>,
     index: usize,
     old: Pending,
     new: Pending,
 )
-    requires rising { IsRising heads.old.items }
-    requires index { index < vec_len heads.old }
-    requires once { (d : Node) → AllPairs (λ m n. m ≢ n) (slice_index_or (nodes_of heads.old.items) index d).dependants }
-    requires summed { (x d : Node) → Contains (nodes_of heads.old.items) x → Contains (slice_index_or (nodes_of heads.old.items) index d).dependants x.patch.number → CanUpdate old x }
+    requires index { index < vec_len heads.old.list }
+    requires once { (d : Node) → AllPairs (λ m n. m ≢ n) (slice_index_or (nodes_of heads.old.list.items) index d).dependants }
+    requires summed { (x d : Node) → Contains (nodes_of heads.old.list.items) x → Contains (slice_index_or (nodes_of heads.old.list.items) index d).dependants x.patch.number → CanUpdate old x }
     requires live { old ≢ pending.Nothing }
-    requires room { (d : Node) → length queue.old.items + length (enqueued (slice_index_or (nodes_of heads.old.items) index d).dependants old new (nodes_of heads.old.items)) ≤ vec_capacity queue.old }
-    ensures nodes { (d : Node) → nodes_of heads.new.items ≡ map (notified (slice_index_or (nodes_of heads.old.items) index d).dependants old new) (nodes_of heads.old.items) }
-    ensures frames { frames_of heads.new.items ≡ frames_of heads.old.items }
-    ensures places { vec_capacity heads.new ≡ vec_capacity heads.old }
-    ensures queued { (d : Node) → queue.new.items ≡ queue.old.items ++ enqueued (slice_index_or (nodes_of heads.old.items) index d).dependants old new (nodes_of heads.old.items) }
+    requires room { (d : Node) → length queue.old.items + length (enqueued (slice_index_or (nodes_of heads.old.list.items) index d).dependants old new (nodes_of heads.old.list.items)) ≤ vec_capacity queue.old }
+    ensures nodes { (d : Node) → nodes_of heads.new.list.items ≡ map (notified (slice_index_or (nodes_of heads.old.list.items) index d).dependants old new) (nodes_of heads.old.list.items) }
+    ensures frames { frames_of heads.new.list.items ≡ frames_of heads.old.list.items }
+    ensures places { vec_capacity heads.new.list ≡ vec_capacity heads.old.list }
+    ensures queued { (d : Node) → queue.new.items ≡ queue.old.items ++ enqueued (slice_index_or (nodes_of heads.old.list.items) index d).dependants old new (nodes_of heads.old.list.items) }
     ensures capacity { vec_capacity queue.new ≡ vec_capacity queue.old }
 {
     let mut at = 0;
-    while at < heads[index].dependants.len() {
-        let number = heads[index].dependants.as_slice()[at];
+    while at < heads.list[index].dependants.len() {
+        let number = heads.list[index].dependants.as_slice()[at];
         update_at(heads, queue, number, old, new);
         at += 1;
     }
@@ -137,32 +135,32 @@ fn note_landing(landed: &mut Vec<u32>, number: u32, left: Pending)
 /// Notifies the dependants of all that is in the queue, and of what is enqueued by that. What comes to disk so is among
 /// those that landed besides, of which there is a place for each head. Answers how many they are.
 pub fn cascade(
-    heads: &mut Vec<Head>,
+    heads: &mut Heads,
     queue: &mut Vec<u32>,
     standings: &mut Vec<Standing>,
     landed: &mut Vec<u32>,
 ) -> usize
-    requires start { Spreading Sinks (nodes_of heads.old.items) (vec_len standings.old) queue.old.items }
-    requires linked { AreLinked (nodes_of heads.old.items) }
-    requires distinct { AreDistinct (nodes_of heads.old.items) }
-    requires standing { AllStand (nodes_of heads.old.items) (vec_len standings.old) standings.old.items }
-    requires room { (vec_len standings.old ≤ 65535) × (length heads.old.items ≤ vec_capacity queue.old) × (length heads.old.items ≤ vec_capacity landed.old) }
-    requires listed { AreLanded (nodes_of heads.old.items) landed.old.items }
-    ensures settled { AreSettled (nodes_of heads.new.items) (vec_len standings.old) }
-    ensures placed { IsCascadeOf (patches_of heads.old.items) (patches_of heads.new.items) }
-    ensures spread { IsSpreadOf (nodes_of heads.old.items) (nodes_of heads.new.items) }
-    ensures standing { AllStand (nodes_of heads.new.items) (vec_len standings.old) standings.new.items }
-    ensures frames { frames_of heads.new.items ≡ frames_of heads.old.items }
-    ensures places { vec_capacity heads.new ≡ vec_capacity heads.old }
-    ensures landed { count_by is_waiting (nodes_of heads.new.items) + result ≡ count_by is_waiting (nodes_of heads.old.items) }
+    requires start { Spreading Sinks (nodes_of heads.old.list.items) (vec_len standings.old) queue.old.items }
+    requires linked { AreLinked (nodes_of heads.old.list.items) }
+    requires distinct { AreDistinct (nodes_of heads.old.list.items) }
+    requires standing { AllStand (nodes_of heads.old.list.items) (vec_len standings.old) standings.old.items }
+    requires room { (vec_len standings.old ≤ 65535) × (length heads.old.list.items ≤ vec_capacity queue.old) × (length heads.old.list.items ≤ vec_capacity landed.old) }
+    requires listed { AreLanded (nodes_of heads.old.list.items) landed.old.items }
+    ensures settled { AreSettled (nodes_of heads.new.list.items) (vec_len standings.old) }
+    ensures placed { IsCascadeOf (patches_of heads.old.list.items) (patches_of heads.new.list.items) }
+    ensures spread { IsSpreadOf (nodes_of heads.old.list.items) (nodes_of heads.new.list.items) }
+    ensures standing { AllStand (nodes_of heads.new.list.items) (vec_len standings.old) standings.new.items }
+    ensures frames { frames_of heads.new.list.items ≡ frames_of heads.old.list.items }
+    ensures places { vec_capacity heads.new.list ≡ vec_capacity heads.old.list }
+    ensures landed { count_by is_waiting (nodes_of heads.new.list.items) + result ≡ count_by is_waiting (nodes_of heads.old.list.items) }
     ensures empty { queue.new.items ≡ [] }
     ensures capacity { vec_capacity queue.new ≡ vec_capacity queue.old }
-    ensures listed { AreLanded (nodes_of heads.new.items) landed.new.items }
+    ensures listed { AreLanded (nodes_of heads.new.list.items) landed.new.items }
     ensures shelf { vec_capacity landed.new ≡ vec_capacity landed.old }
 {
     let before = landed.len();
     while let Some(number) = queue.pop() {
-        if let Some(index) = index_of(heads, number) {
+        if let Some(index) = heads.index_of(number) {
             let (old, new) = record_at(heads, standings, index);
             note_landing(landed, number, new);
             notify(heads, queue, index, old, new);
@@ -172,18 +170,17 @@ pub fn cascade(
 }
 
 /// Seals the gate at the index. It is enqueued where its dependants have to be notified.
-pub fn seal_at(heads: &mut Vec<Head>, queue: &mut Vec<u32>, gate: u32, index: usize)
-    requires rising { IsRising heads.old.items }
-    requires index { HasIndex heads.old.items gate index }
-    requires fits { (x : Node) → Contains (nodes_of heads.old.items) x → Fits x.sums }
+pub fn seal_at(heads: &mut Heads, queue: &mut Vec<u32>, gate: u32, index: usize)
+    requires index { HasIndex heads.old.list.items gate index }
+    requires fits { (x : Node) → Contains (nodes_of heads.old.list.items) x → Fits x.sums }
     requires room { vec_len queue.old < vec_capacity queue.old }
-    ensures nodes { nodes_of heads.new.items ≡ map (at_number gate seals) (nodes_of heads.old.items) }
-    ensures queued { queue.new.items ≡ queue.old.items ++ enqueued_sealed gate (nodes_of heads.old.items) }
-    ensures frames { frames_of heads.new.items ≡ frames_of heads.old.items }
-    ensures places { vec_capacity heads.new ≡ vec_capacity heads.old }
+    ensures nodes { nodes_of heads.new.list.items ≡ map (at_number gate seals) (nodes_of heads.old.list.items) }
+    ensures queued { queue.new.items ≡ queue.old.items ++ enqueued_sealed gate (nodes_of heads.old.list.items) }
+    ensures frames { frames_of heads.new.list.items ≡ frames_of heads.old.list.items }
+    ensures places { vec_capacity heads.new.list ≡ vec_capacity heads.old.list }
     ensures capacity { vec_capacity queue.new ≡ vec_capacity queue.old }
 {
-    let head = &mut heads[index];
+    let head = &mut heads.list[index];
     head.kind = Kind::SealedGate;
     rest(head);
     if !is_recorded(head) {

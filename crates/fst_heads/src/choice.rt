@@ -3,7 +3,7 @@
 ghost use Rattle.std.specs.Prelude.{◌<◌, ◌≤◌, ◌==◌, ◌∷◌, [], ℕ, List, ◌≡◌, ◌&&◌, length, IfOk, IfErr, IfSome, IfNone};
 ghost use Rattle.std.specs.List.{list_any};
 ghost use Rattle.fst_types.specs.declared.fault.Fault.TheVariants as fault;
-ghost use Rattle.fst_heads.specs.Heads.{IsRising, kind_of, patches_of};
+ghost use Rattle.fst_heads.specs.Heads.{kind_of, patches_of};
 ghost use Rattle.fst_heads.specs.Names.{numbers_of};
 ghost use Rattle.fst_heads.specs.Lists.{entries_of, entries_on};
 ghost use Rattle.fst_heads.specs.Nodes.{node_of, nodes_of};
@@ -11,7 +11,7 @@ ghost use Rattle.fst_heads.specs.Standings.{is_ready_on, is_held_on, held_on, re
 ghost use Rattle.fst_heads.specs.Tests.{is_hard_kind};
 
 use crate::head::{Head, Kind};
-use crate::index::index_of;
+use crate::heads::Heads;
 use crate::lists::Listed;
 use crate::pending::is_of_block;
 use crate::places::is_change_at;
@@ -27,12 +27,11 @@ fn is_ready(head: &Head, block: u32) -> bool
 }
 
 // Whether a patch with the number is one.
-fn is_ready_at(heads: &[Head], number: u32, block: u32) -> bool
-    requires { IsRising heads.now }
-    ensures { result ≡ list_any (λ x. (x.patch.number == number) && is_ready_on block x) (nodes_of heads.now) }
+fn is_ready_at(heads: &Heads, number: u32, block: u32) -> bool
+    ensures { result ≡ list_any (λ x. (x.patch.number == number) && is_ready_on block x) (nodes_of heads.now.list.items) }
 {
-    match index_of(heads, number) {
-        Some(index) => is_ready(&heads[index], block),
+    match heads.index_of(number) {
+        Some(index) => is_ready(&heads.list[index], block),
         None => false,
     }
 }
@@ -42,16 +41,15 @@ fn is_ready_at(heads: &[Head], number: u32, block: u32) -> bool
 /// others are looked at.
 pub fn ready_set(
     alloc: Global,
-    heads: &[Head],
+    heads: &Heads,
     list: &[Listed],
     most: usize,
     block: u32,
 ) -> Result<Vec<PatchNo>, Fault>
-    requires rising { IsRising heads.now }
-    requires listed { entries_of list.now ≡ entries_on block (patches_of heads.now) }
-    requires most { length (ready_on block (nodes_of heads.now)) ≤ most }
-    ensures ok { IfOk result (λ numbers. numbers_of numbers.items ≡ ready_on block (nodes_of heads.now)) }
-    ensures refused { IfErr result (λ f. (0 < length (ready_on block (nodes_of heads.now))) × (f ≡ fault.Memory)) }
+    requires listed { entries_of list.now ≡ entries_on block (patches_of heads.now.list.items) }
+    requires most { length (ready_on block (nodes_of heads.now.list.items)) ≤ most }
+    ensures ok { IfOk result (λ numbers. numbers_of numbers.items ≡ ready_on block (nodes_of heads.now.list.items)) }
+    ensures refused { IfErr result (λ f. (0 < length (ready_on block (nodes_of heads.now.list.items))) × (f ≡ fault.Memory)) }
 {
     let mut front = Vec::new(alloc);
     // What was found from the end of the list, the newest first.
@@ -95,12 +93,11 @@ fn is_held(head: &Head, block: u32) -> bool
 }
 
 // Whether a patch with the number is one.
-fn is_held_at(heads: &[Head], number: u32, block: u32) -> bool
-    requires { IsRising heads.now }
-    ensures { result ≡ list_any (λ x. (x.patch.number == number) && is_held_on block x) (nodes_of heads.now) }
+fn is_held_at(heads: &Heads, number: u32, block: u32) -> bool
+    ensures { result ≡ list_any (λ x. (x.patch.number == number) && is_held_on block x) (nodes_of heads.now.list.items) }
 {
-    match index_of(heads, number) {
-        Some(index) => is_held(&heads[index], block),
+    match heads.index_of(number) {
+        Some(index) => is_held(&heads.list[index], block),
         None => false,
     }
 }
@@ -108,12 +105,11 @@ fn is_held_at(heads: &[Head], number: u32, block: u32) -> bool
 /// The least hard patch of the block in memory outside its writable set. The list has the changes of the block that are
 /// not on disk. No more hard ones than `held` wait for more than changes of the block in memory: they are looked for from
 /// both ends of the list, and where so many are found, no others are looked at.
-pub fn first_held(heads: &[Head], list: &[Listed], held: usize, block: u32) -> Option<PatchNo>
-    requires rising { IsRising heads.now }
-    requires listed { entries_of list.now ≡ entries_on block (patches_of heads.now) }
-    requires held { length (held_on block (nodes_of heads.now)) ≤ held }
-    ensures none { IfNone result (held_on block (nodes_of heads.now) ≡ []) }
-    ensures least { IfSome result (λ no. (rest : List ℕ) × (held_on block (nodes_of heads.now) ≡ no.0 ∷ rest)) }
+pub fn first_held(heads: &Heads, list: &[Listed], held: usize, block: u32) -> Option<PatchNo>
+    requires listed { entries_of list.now ≡ entries_on block (patches_of heads.now.list.items) }
+    requires held { length (held_on block (nodes_of heads.now.list.items)) ≤ held }
+    ensures none { IfNone result (held_on block (nodes_of heads.now.list.items) ≡ []) }
+    ensures least { IfSome result (λ no. (rest : List ℕ) × (held_on block (nodes_of heads.now.list.items) ≡ no.0 ∷ rest)) }
 {
     let mut left = held;
     let mut least = None;

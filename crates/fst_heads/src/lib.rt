@@ -1,8 +1,8 @@
 //! What is kept of each patch, and what follows when one changes.
 //!
 //! A patch has a `Head`: its number, what it is, where it is, the numbers that it directly depends on and the numbers of
-//! those that directly depend on it. Heads stand in order of number. That of a patch which is forgotten stays for a while,
-//! marked so: dropping heads moves those behind them, so that many are dropped at once.
+//! those that directly depend on it. Heads stand in order of number, which is a fact of their type, `Heads`. That of a patch
+//! which is forgotten stays for a while, marked so: dropping heads moves those behind them, so that many are dropped at once.
 //!
 //! So that nobody has to walk from patch to patch to learn what may be written, each head also has what is *pending* of it,
 //! which says what has still to reach the disk before it may: nothing; changes of one block alone, all in memory, or some
@@ -30,7 +30,7 @@ pub mod cover;
 pub mod forgotten;
 pub mod growth;
 pub mod head;
-pub mod index;
+pub mod heads;
 pub mod launch;
 pub mod links;
 pub mod lists;

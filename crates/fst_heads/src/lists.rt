@@ -4,15 +4,14 @@ ghost use Rattle.std.specs.Prelude.{◌==◌, ◌&&◌, ◌≡◌, ◌≤◌, �
 ghost use Rattle.std.specs.List.{list_any};
 ghost use Rattle.std.specs.List.Sorted.{IsStrictlyIncreasing};
 ghost use Rattle.fst_heads.specs.Spreading.{lands};
-ghost use Rattle.fst_heads.specs.Heads.{IsRising, patches_of};
+ghost use Rattle.fst_heads.specs.Heads.{patches_of};
 ghost use Rattle.fst_heads.specs.Keeps.{IsInside};
 ghost use Rattle.fst_heads.specs.Lists.{entries_of, entries_on, flying_on, AreListed};
 ghost use Rattle.fst_heads.specs.Nodes.{at_number, nodes_of};
 ghost use Rattle.fst_types.specs.Tests.{is_among, is_change_at};
 ghost use Rattle.fst_types.specs.declared.place.Place.TheVariants as place;
 
-use crate::head::Head;
-use crate::index::index_of;
+use crate::heads::Heads;
 use crate::places::is_change_at;
 use crate::row::has_number;
 use crate::turns::next_in_turn;
@@ -38,16 +37,15 @@ pub fn empty_lists(alloc: Global, blocks: u32) -> Result<Vec<Vec<Listed>>, Alloc
 }
 
 // The change with the number is on disk, if it is one of the block in flight; whether it is one.
-fn land_number(heads: &mut Vec<Head>, number: u32, block: u32) -> bool
-    requires { IsRising heads.old.items }
-    ensures flew { result ≡ list_any (λ x. (x.patch.number == number) && is_change_at place.Flight block x.patch) (nodes_of heads.old.items) }
-    ensures nodes { nodes_of heads.new.items ≡ map (at_number number (lands block)) (nodes_of heads.old.items) }
+fn land_number(heads: &mut Heads, number: u32, block: u32) -> bool
+    ensures flew { result ≡ list_any (λ x. (x.patch.number == number) && is_change_at place.Flight block x.patch) (nodes_of heads.old.list.items) }
+    ensures nodes { nodes_of heads.new.list.items ≡ map (at_number number (lands block)) (nodes_of heads.old.list.items) }
 {
-    let Some(index) = index_of(heads, number) else {
+    let Some(index) = heads.index_of(number) else {
         return false;
     };
-    if is_change_at(&heads[index], Place::Flight, block) {
-        heads[index].place = Place::Disk;
+    if is_change_at(&heads.list[index], Place::Flight, block) {
+        heads.list[index].place = Place::Disk;
         return true;
     }
     false
@@ -67,20 +65,13 @@ fn make_places(queue: &mut Vec<u32>, many: usize)
 
 // What is in flight among the listed is on disk, and waits in the queue, in order. So many fly: they are looked for from
 // both ends of the list, and where they are found, no others are looked at.
-fn land_listed(
-    heads: &mut Vec<Head>,
-    list: &[Listed],
-    queue: &mut Vec<u32>,
-    flying: usize,
-    block: u32,
-)
-    requires rising { IsRising heads.old.items }
-    requires listed { entries_of list.now ≡ entries_on block (patches_of heads.old.items) }
-    requires flying { length (flying_on block (patches_of heads.old.items)) ≡ flying }
+fn land_listed(heads: &mut Heads, list: &[Listed], queue: &mut Vec<u32>, flying: usize, block: u32)
+    requires listed { entries_of list.now ≡ entries_on block (patches_of heads.old.list.items) }
+    requires flying { length (flying_on block (patches_of heads.old.list.items)) ≡ flying }
     requires idle { queue.old.items ≡ [] }
-    requires room { length heads.old.items ≤ vec_capacity queue.old }
-    ensures nodes { nodes_of heads.new.items ≡ map (lands block) (nodes_of heads.old.items) }
-    ensures queued { queue.new.items ≡ flying_on block (patches_of heads.old.items) }
+    requires room { length heads.old.list.items ≤ vec_capacity queue.old }
+    ensures nodes { nodes_of heads.new.list.items ≡ map (lands block) (nodes_of heads.old.list.items) }
+    ensures queued { queue.new.items ≡ flying_on block (patches_of heads.old.list.items) }
     ensures capacity { vec_capacity queue.new ≡ vec_capacity queue.old }
 {
     make_places(queue, flying);
@@ -116,21 +107,20 @@ fn drop_landed(list: &mut Vec<Listed>, landed: &[u32])
 
 /// What is in flight of the block is on disk, and waits in the queue. As many of its changes fly as `flying`.
 pub fn land_block(
-    heads: &mut Vec<Head>,
+    heads: &mut Heads,
     lists: &mut Vec<Vec<Listed>>,
     queue: &mut Vec<u32>,
     flying: usize,
     block: u32,
 )
-    requires rising { IsRising heads.old.items }
-    requires inside { IsInside (patches_of heads.old.items) (length lists.old.items) }
-    requires listed { AreListed (patches_of heads.old.items) (length lists.old.items) (map (λ l. entries_of l.items) lists.old.items) }
-    requires flying { length (flying_on block (patches_of heads.old.items)) ≡ flying }
+    requires inside { IsInside (patches_of heads.old.list.items) (length lists.old.items) }
+    requires listed { AreListed (patches_of heads.old.list.items) (length lists.old.items) (map (λ l. entries_of l.items) lists.old.items) }
+    requires flying { length (flying_on block (patches_of heads.old.list.items)) ≡ flying }
     requires idle { queue.old.items ≡ [] }
-    requires room { length heads.old.items ≤ vec_capacity queue.old }
-    ensures nodes { nodes_of heads.new.items ≡ map (lands block) (nodes_of heads.old.items) }
-    ensures queued { queue.new.items ≡ flying_on block (patches_of heads.old.items) }
-    ensures listed { AreListed (patches_of heads.new.items) (length lists.old.items) (map (λ l. entries_of l.items) lists.new.items) }
+    requires room { length heads.old.list.items ≤ vec_capacity queue.old }
+    ensures nodes { nodes_of heads.new.list.items ≡ map (lands block) (nodes_of heads.old.list.items) }
+    ensures queued { queue.new.items ≡ flying_on block (patches_of heads.old.list.items) }
+    ensures listed { AreListed (patches_of heads.new.list.items) (length lists.old.items) (map (λ l. entries_of l.items) lists.new.items) }
     ensures capacity { vec_capacity queue.new ≡ vec_capacity queue.old }
 {
     if let Some(list) = lists.get_mut(block as usize) {

@@ -5,12 +5,12 @@ ghost use Rattle.std.specs.List.{prefix_len};
 ghost use Rattle.fst_types.specs.declared.place.Place.TheVariants as place;
 ghost use Rattle.fst_types.specs.Patches.{Patch, block_of_kind};
 ghost use Rattle.fst_types.specs.Tests.{is_at, is_on, is_change_at, is_live};
-ghost use Rattle.fst_heads.specs.Heads.{IsRising, kind_of, patch_of, patches_of};
+ghost use Rattle.fst_heads.specs.Heads.{kind_of, patch_of, patches_of};
 ghost use Rattle.fst_heads.specs.Spans.{SpansDisk};
 ghost use Rattle.fst_heads.specs.Nodes.{nodes_of};
 
 use crate::head::{Head, Kind};
-use crate::index::index_of;
+use crate::heads::Heads;
 use crate::test::is_live;
 use fst_types::Place;
 
@@ -50,12 +50,11 @@ pub fn is_change_at(head: &Head, at: Place, block: u32) -> bool
 }
 
 /// The block of the patch with the number, if it is a change.
-pub fn block_of(heads: &[Head], number: u32) -> Option<u32>
-    requires { IsRising heads.now }
-    ensures { (p : Patch) → Contains (patches_of heads.now) p → p.number ≡ number → result ≡ block_of_kind p.kind }
+pub fn block_of(heads: &Heads, number: u32) -> Option<u32>
+    ensures { (p : Patch) → Contains (patches_of heads.now.list.items) p → p.number ≡ number → result ≡ block_of_kind p.kind }
 {
-    let index = index_of(heads, number)?;
-    match heads[index].kind {
+    let index = heads.index_of(number)?;
+    match heads.list[index].kind {
         Kind::Change(_, block, _) => Some(u32::from(block)),
         Kind::Empty | Kind::OpenGate | Kind::SealedGate => None,
     }
@@ -132,15 +131,15 @@ fn swap_on_disk(heads: &mut Vec<Head>, first: usize, end: usize)
 
 /// Drops the patches on disk, which stand from `first` up to `end`. Those before and behind are looked at only where they are
 /// fewer: what looks at all moves a head in half the time.
-pub fn drop_on_disk(heads: &mut Vec<Head>, first: usize, end: usize)
-    requires { SpansDisk (patches_of heads.old.items) first end }
-    ensures { nodes_of heads.new.items ≡ filter (λ x. is_live x.patch) (nodes_of heads.old.items) }
+pub fn drop_on_disk(heads: &mut Heads, first: usize, end: usize)
+    requires { SpansDisk (patches_of heads.old.list.items) first end }
+    ensures { nodes_of heads.new.list.items ≡ filter (λ x. is_live x.patch) (nodes_of heads.old.list.items) }
 {
-    if heads.len() / 2 < end - first {
-        heads.retain(|head| is_kept(head));
+    if heads.list.len() / 2 < end - first {
+        heads.list.retain(|head| is_kept(head));
         return;
     }
-    swap_on_disk(heads, first, end);
+    swap_on_disk(&mut heads.list, first, end);
 }
 
 /// One for a patch that is not on disk.

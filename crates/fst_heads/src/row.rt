@@ -7,15 +7,14 @@ ghost use Rattle.fst_types.specs.Gates.{IsGiven};
 ghost use Rattle.fst_types.specs.Lists.{Lists};
 ghost use Rattle.fst_types.specs.Order.{NamesUnknown};
 ghost use Rattle.fst_types.specs.Tests.{is_among};
-ghost use Rattle.fst_heads.specs.Heads.{IsRising, patches_of};
+ghost use Rattle.fst_heads.specs.Heads.{patches_of};
 ghost use Rattle.fst_heads.specs.Names.{numbers_of};
 ghost use Rattle.fst_heads.specs.Lists.{entries_of, entries_on};
 ghost use Rattle.fst_heads.specs.Nodes.{nodes_of, pending_in};
 ghost use Rattle.fst_heads.specs.Pendings.{Fits, joined, sums_of};
 ghost use Rattle.fst_heads.specs.Rows.{Gains, shares, IsDependency};
 
-use crate::head::Head;
-use crate::index::index_of;
+use crate::heads::Heads;
 use crate::lists::Listed;
 use crate::pending::{Pending, Sums, join, no_sums};
 use crate::test::is_live;
@@ -46,12 +45,11 @@ pub fn names_unknown(numbers: u32, names: &[PatchNo]) -> bool
 }
 
 /// Whether the number is that of a patch that is not on disk.
-pub fn is_live_number(heads: &[Head], number: u32) -> bool
-    requires { IsRising heads.now }
-    ensures { IsTrue result ↔ IsLiveNumber (patches_of heads.now) number }
+pub fn is_live_number(heads: &Heads, number: u32) -> bool
+    ensures { IsTrue result ↔ IsLiveNumber (patches_of heads.now.list.items) number }
 {
-    match index_of(heads, number) {
-        Some(index) => is_live(heads[index].place),
+    match heads.index_of(number) {
+        Some(index) => is_live(heads.list[index].place),
         None => false,
     }
 }
@@ -77,9 +75,8 @@ pub fn put(row: &mut Row, number: u32) -> Result<(), AllocError>
 }
 
 /// The row of the names that are not on disk.
-pub fn live_named(alloc: Global, heads: &[Head], names: &[PatchNo]) -> Result<Row, AllocError>
-    requires { IsRising heads.now }
-    ensures { IfOk result (λ row. Lists (λ n. IsLiveNumber (patches_of heads.now) n × Contains (numbers_of names.now) n) row.items) }
+pub fn live_named(alloc: Global, heads: &Heads, names: &[PatchNo]) -> Result<Row, AllocError>
+    ensures { IfOk result (λ row. Lists (λ n. IsLiveNumber (patches_of heads.now.list.items) n × Contains (numbers_of names.now) n) row.items) }
 {
     let mut row = SmallVec::new(alloc);
     for name in names {
@@ -110,15 +107,14 @@ pub fn shares(own: Span, span: Span) -> bool
 /// byte with it. The list has the changes of the block that are not on disk.
 pub(crate) fn dependencies_of(
     alloc: Global,
-    heads: &[Head],
+    heads: &Heads,
     list: &[Listed],
     block: u32,
     span: Span,
     names: &[PatchNo],
 ) -> Result<Row, AllocError>
-    requires rising { IsRising heads.now }
-    requires listed { entries_of list.now ≡ entries_on block (patches_of heads.now) }
-    ensures { IfOk result (λ row. Lists (IsDependency (patches_of heads.now) (numbers_of names.now) block span.at span.len) row.items) }
+    requires listed { entries_of list.now ≡ entries_on block (patches_of heads.now.list.items) }
+    ensures { IfOk result (λ row. Lists (IsDependency (patches_of heads.now.list.items) (numbers_of names.now) block span.at span.len) row.items) }
 {
     let mut row = live_named(alloc, heads, names)?;
     for listed in list {
@@ -130,20 +126,18 @@ pub(crate) fn dependencies_of(
 }
 
 /// What is pending of the patch with the number, as its dependants know it.
-pub fn pending_at(heads: &[Head], number: u32) -> Pending
-    requires { IsRising heads.now }
-    ensures { result ≡ pending_in (nodes_of heads.now) number }
+pub fn pending_at(heads: &Heads, number: u32) -> Pending
+    ensures { result ≡ pending_in (nodes_of heads.now.list.items) number }
 {
-    match index_of(heads, number) {
-        Some(index) => heads[index].pending,
+    match heads.index_of(number) {
+        Some(index) => heads.list[index].pending,
         None => Pending::Nothing,
     }
 }
 
 /// What is pending of the row.
-pub fn row_pending(heads: &[Head], row: &[u32]) -> Pending
-    requires { IsRising heads.now }
-    ensures { result ≡ joined (pending_in (nodes_of heads.now)) row.now }
+pub fn row_pending(heads: &Heads, row: &[u32]) -> Pending
+    ensures { result ≡ joined (pending_in (nodes_of heads.now.list.items)) row.now }
 {
     let mut pending = Pending::Nothing;
     for number in row {
@@ -153,10 +147,9 @@ pub fn row_pending(heads: &[Head], row: &[u32]) -> Pending
 }
 
 /// What the row adds up to.
-pub fn row_sums(heads: &[Head], row: &[u32]) -> Sums
-    requires rising { IsRising heads.now }
-    requires room { (sums_of (pending_in (nodes_of heads.now)) row.now).count < 65536 }
-    ensures sums { result ≡ sums_of (pending_in (nodes_of heads.now)) row.now }
+pub fn row_sums(heads: &Heads, row: &[u32]) -> Sums
+    requires room { (sums_of (pending_in (nodes_of heads.now.list.items)) row.now).count < 65536 }
+    ensures sums { result ≡ sums_of (pending_in (nodes_of heads.now.list.items)) row.now }
     ensures fits { Fits result }
 {
     let mut sums = no_sums();

@@ -3,14 +3,14 @@
 ghost use Rattle.std.specs.Prelude.{◌≡◌, ◌↔◌, map, IsTrue, IfOk, OnOk};
 ghost use Rattle.std.specs.List.Sorted.{IsStrictlyIncreasing};
 ghost use Rattle.fst_heads.specs.Covers.{GainsTouched, IsCovered};
-ghost use Rattle.fst_heads.specs.Heads.{IsRising, patch_of, patches_of};
+ghost use Rattle.fst_heads.specs.Heads.{patch_of, patches_of};
 ghost use Rattle.fst_heads.specs.Lists.{entries_of, entries_on};
 ghost use Rattle.fst_heads.specs.Names.{numbers_of};
 ghost use Rattle.fst_heads.specs.Rows.{IsSparseRow, IsTouched, touches};
 
 use crate::cover::{Cover, Run};
 use crate::head::{Head, Kind};
-use crate::index::index_of;
+use crate::heads::Heads;
 use crate::lists::Listed;
 use crate::row::{Row, dependencies_of, live_named, put, shares};
 use crate::test::is_live;
@@ -38,27 +38,25 @@ fn touches(head: &Head, block: u32, span: Span) -> bool
 }
 
 /// Whether the number is that of a change of the block that is not on disk and shares a byte with the span.
-pub fn is_touched(heads: &[Head], number: u32, block: u32, span: Span) -> bool
-    requires { IsRising heads.now }
-    ensures { IsTrue result ↔ IsTouched (patches_of heads.now) block span.at span.len number }
+pub fn is_touched(heads: &Heads, number: u32, block: u32, span: Span) -> bool
+    ensures { IsTrue result ↔ IsTouched (patches_of heads.now.list.items) block span.at span.len number }
 {
-    match index_of(heads, number) {
-        Some(index) => touches(&heads[index], block, span),
+    match heads.index_of(number) {
+        Some(index) => touches(&heads.list[index], block, span),
         None => false,
     }
 }
 
 // Puts those of the runs' numbers into the row that share a byte with the span. Equal ones mostly stand side by side.
 fn gain_touched(
-    heads: &[Head],
+    heads: &Heads,
     runs: &[Run],
     block: u32,
     span: Span,
     row: &mut Row,
 ) -> Result<(), AllocError>
-    requires heads { IsRising heads.now }
     requires row { IsStrictlyIncreasing row.old.items }
-    ensures { OnOk result (GainsTouched (patches_of heads.now) (map (λ r. r.number) runs.now) block span.at span.len row.old.items row.new.items) }
+    ensures { OnOk result (GainsTouched (patches_of heads.now.list.items) (map (λ r. r.number) runs.now) block span.at span.len row.old.items row.new.items) }
 {
     let mut last = 0;
     for run in runs {
@@ -77,15 +75,14 @@ fn gain_touched(
 /// not tell of, or a change that has no byte: there at the list, which has the changes of the block that are not on disk.
 pub fn sparse_row(
     alloc: Global,
-    heads: &[Head],
+    heads: &Heads,
     list: &[Listed],
     cover: &Cover,
     wanted: &Wanted<'_>,
 ) -> Result<Row, AllocError>
-    requires rising { IsRising heads.now }
-    requires listed { entries_of list.now ≡ entries_on wanted.now.block (patches_of heads.now) }
-    requires covered { IsCovered (patches_of heads.now) wanted.now.block cover.now }
-    ensures { IfOk result (λ row. IsSparseRow (patches_of heads.now) (numbers_of wanted.now.names.now) wanted.now.block wanted.now.span.at wanted.now.span.len row.items) }
+    requires listed { entries_of list.now ≡ entries_on wanted.now.block (patches_of heads.now.list.items) }
+    requires covered { IsCovered (patches_of heads.now.list.items) wanted.now.block cover.now }
+    ensures { IfOk result (λ row. IsSparseRow (patches_of heads.now.list.items) (numbers_of wanted.now.names.now) wanted.now.block wanted.now.span.at wanted.now.span.len row.items) }
 {
     let block = wanted.block;
     let span = wanted.span;

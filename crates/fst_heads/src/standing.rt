@@ -4,7 +4,7 @@ ghost use Rattle.std.specs.Prelude.{◌≡◌, ◌<◌, ◌≤◌, [], ℕ, true
 ghost use Rattle.fst_types.specs.Patches.{Change};
 ghost use Rattle.fst_types.specs.declared.grade.Grade.{Grade};
 ghost use Rattle.fst_heads.specs.Frames.{frames_of};
-ghost use Rattle.fst_heads.specs.Heads.{IsRising, kind_of};
+ghost use Rattle.fst_heads.specs.Heads.{kind_of};
 ghost use Rattle.fst_heads.specs.Nodes.{Node, nodes_of, at_number};
 ghost use Rattle.fst_heads.specs.Spreading.{now, IsStale, recorded};
 ghost use Rattle.fst_heads.specs.Standings.{AllStand, NoneBelow, may_be_written, released, entered};
@@ -12,7 +12,8 @@ ghost use Rattle.fst_heads.specs.Tests.{is_hard_kind};
 
 use crate::cascade::pending_now;
 use crate::choice::is_hard;
-use crate::head::{Head, Kind};
+use crate::head::Kind;
+use crate::heads::Heads;
 use crate::pending::{Pending, is_pending};
 use fst_types::{BlockNo, Place};
 use std::alloc::{AllocError, Global};
@@ -136,24 +137,23 @@ pub fn empty_standings(alloc: Global, blocks: u32) -> Result<Vec<Standing>, Allo
 /// Records what is pending of the head at the index, of which its dependants have to be notified. Answers what was recorded
 /// and what is now. A change in memory that now waits for changes of its block in memory alone is ready.
 pub(crate) fn record_at(
-    heads: &mut Vec<Head>,
+    heads: &mut Heads,
     standings: &mut Vec<Standing>,
     index: usize,
 ) -> (Pending, Pending)
-    requires rising { IsRising heads.old.items }
-    requires index { index < vec_len heads.old }
-    requires stale { (d : Node) → IsStale (slice_index_or (nodes_of heads.old.items) index d) }
-    requires inside { (x : Node) (b at len : ℕ) (grade : Grade) → Contains (nodes_of heads.old.items) x → x.patch.kind ≡ Change b at len grade → b < vec_len standings.old }
-    requires standing { AllStand (nodes_of heads.old.items) (vec_len standings.old) standings.old.items }
-    ensures old { (d : Node) → result.0 ≡ (slice_index_or (nodes_of heads.old.items) index d).pending }
-    ensures new { (d : Node) → result.1 ≡ now (slice_index_or (nodes_of heads.old.items) index d) }
-    ensures nodes { (d : Node) → nodes_of heads.new.items ≡ map (at_number (slice_index_or (nodes_of heads.old.items) index d).patch.number recorded) (nodes_of heads.old.items) }
-    ensures standing { AllStand (nodes_of heads.new.items) (vec_len standings.old) standings.new.items }
-    ensures frames { frames_of heads.new.items ≡ frames_of heads.old.items }
-    ensures places { vec_capacity heads.new ≡ vec_capacity heads.old }
-    ensures len { vec_len heads.new ≡ vec_len heads.old }
+    requires index { index < vec_len heads.old.list }
+    requires stale { (d : Node) → IsStale (slice_index_or (nodes_of heads.old.list.items) index d) }
+    requires inside { (x : Node) (b at len : ℕ) (grade : Grade) → Contains (nodes_of heads.old.list.items) x → x.patch.kind ≡ Change b at len grade → b < vec_len standings.old }
+    requires standing { AllStand (nodes_of heads.old.list.items) (vec_len standings.old) standings.old.items }
+    ensures old { (d : Node) → result.0 ≡ (slice_index_or (nodes_of heads.old.list.items) index d).pending }
+    ensures new { (d : Node) → result.1 ≡ now (slice_index_or (nodes_of heads.old.list.items) index d) }
+    ensures nodes { (d : Node) → nodes_of heads.new.list.items ≡ map (at_number (slice_index_or (nodes_of heads.old.list.items) index d).patch.number recorded) (nodes_of heads.old.list.items) }
+    ensures standing { AllStand (nodes_of heads.new.list.items) (vec_len standings.old) standings.new.items }
+    ensures frames { frames_of heads.new.list.items ≡ frames_of heads.old.list.items }
+    ensures places { vec_capacity heads.new.list ≡ vec_capacity heads.old.list }
+    ensures len { vec_len heads.new.list ≡ vec_len heads.old.list }
 {
-    let head = &mut heads[index];
+    let head = &mut heads.list[index];
     let old = head.pending;
     let new = pending_now(head);
     if let Kind::Change(_, block, _) = head.kind {

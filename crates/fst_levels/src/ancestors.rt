@@ -12,7 +12,7 @@ ghost use Rattle.std.specs.Prelude.{◌≡◌, ◌<◌, ◌⊎◌, ℕ, IsTrue, 
 ghost use Rattle.fst_types.specs.Gates.{IsOpenNumber};
 ghost use Rattle.fst_types.specs.Order.{NamesAbove};
 ghost use Rattle.fst_heads.specs.declared.test.Test.TheVariants as test;
-ghost use Rattle.fst_heads.specs.Heads.{IsRising, patches_of};
+ghost use Rattle.fst_heads.specs.Heads.{patches_of};
 ghost use Rattle.fst_heads.specs.Indices.{PassesAt};
 ghost use Rattle.fst_heads.specs.Names.{numbers_of};
 ghost use Rattle.fst_levels.specs.Ancestors.{AreOver, GoesUnder, LeadsTo};
@@ -23,7 +23,8 @@ ghost use Rattle.fst_levels.specs.WayBack.{LeadsBack};
 use crate::levels::{Ancestry, Levels, Rank, no_ancestry};
 use crate::shortcuts::{first, newest, newest_few, passes_at, row_below};
 use crate::sight::Sight;
-use fst_heads::head::{Head, Kind};
+use fst_heads::head::Kind;
+use fst_heads::heads::Heads;
 use fst_heads::lists::Listed;
 use fst_heads::test::Test;
 use fst_types::PatchNo;
@@ -44,9 +45,8 @@ const FEW: u32 = 8;
 const MOST_STEPS: u32 = 64;
 
 // The jump of a patch with that parent: where the parent's jump is as long as the next one, over both, else to the parent.
-fn jump_under(levels: &Levels, heads: &[Head], parent: u32) -> u32
-    requires rising { IsRising heads.now }
-    requires aligned { map (λ r. r.number) levels.now.ranks ≡ map (λ p. p.number) (patches_of heads.now) }
+fn jump_under(levels: &Levels, heads: &Heads, parent: u32) -> u32
+    requires aligned { map (λ r. r.number) levels.now.ranks ≡ map (λ p. p.number) (patches_of heads.now.list.items) }
     ensures { (result ≡ parent) ⊎ (result ≡ jump_of levels.now.ranks (jump_of levels.now.ranks parent)) }
 {
     let first = levels.rank_of(heads, parent).ancestry;
@@ -76,12 +76,11 @@ fn parent_in(row: &[u32], number: u32) -> Option<u32>
 }
 
 /// The ancestry of the patch with the number, which directly depends on the row.
-pub fn ancestry_over(levels: &Levels, heads: &[Head], row: &[u32], number: u32) -> Ancestry
-    requires rising { IsRising heads.now }
-    requires aligned { map (λ r. r.number) levels.now.ranks ≡ map (λ p. p.number) (patches_of heads.now) }
-    requires jumps { AreOver (patches_of heads.now) (jump_of levels.now.ranks) }
+pub fn ancestry_over(levels: &Levels, heads: &Heads, row: &[u32], number: u32) -> Ancestry
+    requires aligned { map (λ r. r.number) levels.now.ranks ≡ map (λ p. p.number) (patches_of heads.now.list.items) }
+    requires jumps { AreOver (patches_of heads.now.list.items) (jump_of levels.now.ranks) }
     requires given { 0 < number }
-    ensures { GoesUnder (patches_of heads.now) number row.now result }
+    ensures { GoesUnder (patches_of heads.now.list.items) number row.now result }
 {
     let Some(parent) = parent_in(row, number) else {
         return no_ancestry();
@@ -95,18 +94,17 @@ pub fn ancestry_over(levels: &Levels, heads: &[Head], row: &[u32], number: u32) 
 }
 
 /// The patch with the number has the ancestry of what it directly depends on now.
-pub fn renew(levels: &mut Levels, heads: &[Head], number: u32)
-    requires rising { IsRising heads.now }
-    requires leveled { IsLeveled (patches_of heads.now) (length levels.old.floors) levels.old }
+pub fn renew(levels: &mut Levels, heads: &Heads, number: u32)
+    requires leveled { IsLeveled (patches_of heads.now.list.items) (length levels.old.floors) levels.old }
     requires given { 0 < number }
-    ensures leveled { IsLeveled (patches_of heads.now) (length levels.new.floors) levels.new }
+    ensures leveled { IsLeveled (patches_of heads.now.list.items) (length levels.new.floors) levels.new }
     ensures floors { levels.new.floors ≡ levels.old.floors }
     ensures room { (length levels.new.ranks ≡ length levels.old.ranks) × (levels.new.room ≡ levels.old.room) }
 {
     let Some(index) = levels.find(heads, number) else {
         return;
     };
-    let row = heads[index].dependencies.as_slice();
+    let row = heads.list[index].dependencies.as_slice();
     let ancestry = ancestry_over(levels, heads, row, number);
     levels.put_ancestry(index, ancestry);
 }
@@ -129,7 +127,7 @@ fn toward(sight: &Sight<'_>, own: Ancestry, to: u32) -> Rank
 // Whether a patch is the other one, or has it among its ancestors.
 fn comes_to(sight: &Sight<'_>, from: u32, to: u32) -> bool
     requires sees { Sees sight.now }
-    ensures { IsTrue result → LeadsTo (patches_of sight.now.heads.now) from to }
+    ensures { IsTrue result → LeadsTo (patches_of sight.now.heads.now.list.items) from to }
 {
     let mut at = sight.levels.rank_of(sight.heads, from);
     for _ in 0..MOST_STEPS {
@@ -148,8 +146,8 @@ fn comes_to(sight: &Sight<'_>, from: u32, to: u32) -> bool
 // is not on disk. Below the tail gate of a group there are such, and none is its ancestor.
 fn off_at(sight: &Sight<'_>, block: u32, number: u32) -> Option<u32>
     requires sees { Sees sight.now }
-    ensures off { IfSome result (PassesAt (test.LiveOff block) (patches_of sight.now.heads.now)) }
-    ensures under { IfSome result (LeadsTo (patches_of sight.now.heads.now) number) }
+    ensures off { IfSome result (PassesAt (test.LiveOff block) (patches_of sight.now.heads.now.list.items)) }
+    ensures under { IfSome result (LeadsTo (patches_of sight.now.heads.now.list.items) number) }
 {
     if passes_at(sight, Test::LiveOff(block), number) {
         return Some(number);
@@ -165,8 +163,8 @@ fn off_at(sight: &Sight<'_>, block: u32, number: u32) -> Option<u32>
 // The first change of another block that is not on disk at the patch or its next ancestors.
 fn first_off(sight: &Sight<'_>, block: u32, number: u32) -> Option<u32>
     requires sees { Sees sight.now }
-    ensures off { IfSome result (PassesAt (test.LiveOff block) (patches_of sight.now.heads.now)) }
-    ensures under { IfSome result (LeadsTo (patches_of sight.now.heads.now) number) }
+    ensures off { IfSome result (PassesAt (test.LiveOff block) (patches_of sight.now.heads.now.list.items)) }
+    ensures under { IfSome result (LeadsTo (patches_of sight.now.heads.now.list.items) number) }
 {
     let mut at = number;
     for _ in 0..FEW {
@@ -182,7 +180,7 @@ fn first_off(sight: &Sight<'_>, block: u32, number: u32) -> Option<u32>
 fn newest_changes<'a>(sight: &Sight<'a>, block: u32) -> &'a [Listed]
     requires sees { Sees sight.now }
     requires block { block < length sight.now.lists.now }
-    ensures { (n : ℕ) → Contains (map (λ l. l.number) result.now) n → PassesAt (test.LiveOn block) (patches_of sight.now.heads.now) n }
+    ensures { (n : ℕ) → Contains (map (λ l. l.number) result.now) n → PassesAt (test.LiveOn block) (patches_of sight.now.heads.now.list.items) n }
 {
     let list = sight.lists[block as usize].as_slice();
     &list[list.len().saturating_sub(NEWEST)..]
@@ -193,16 +191,16 @@ fn newest_changes<'a>(sight: &Sight<'a>, block: u32) -> &'a [Listed]
 // nothing depends on it.
 fn stand_in(sight: &Sight<'_>, own: Rank, change: u32) -> Option<u32>
     requires sees { Sees sight.now }
-    ensures { IfSome result (λ s. LeadsTo (patches_of sight.now.heads.now) s change) }
+    ensures { IfSome result (λ s. LeadsTo (patches_of sight.now.heads.now.list.items) s change) }
 {
     let index = sight.levels.find(sight.heads, change)?;
     let rank = sight.levels.rank(index);
     if rank.level > own.level || rank.ancestry.depth >= own.ancestry.depth {
         return None;
     }
-    let first = first(sight.heads[index].dependants.as_slice())?;
+    let first = first(sight.heads.list[index].dependants.as_slice())?;
     let over = sight.levels.find(sight.heads, first)?;
-    if let Kind::Change(_, _, _) = sight.heads[over].kind {
+    if let Kind::Change(_, _, _) = sight.heads.list[over].kind {
         return Some(change);
     }
     Some(first)
@@ -211,7 +209,7 @@ fn stand_in(sight: &Sight<'_>, own: Rank, change: u32) -> Option<u32>
 // The first of these changes to which the ancestors of the patch with the number lead, of as many as are tried.
 fn leads_to_one(sight: &Sight<'_>, number: u32, changes: &[Listed]) -> Option<u32>
     requires sees { Sees sight.now }
-    ensures { IfSome result (λ n. Contains (map (λ l. l.number) changes.now) n × LeadsTo (patches_of sight.now.heads.now) number n) }
+    ensures { IfSome result (λ n. Contains (map (λ l. l.number) changes.now) n × LeadsTo (patches_of sight.now.heads.now.list.items) number n) }
 {
     let own = sight.levels.rank_of(sight.heads, number);
     let mut left = TRIED;
@@ -234,7 +232,7 @@ fn leads_to_one(sight: &Sight<'_>, number: u32, changes: &[Listed]) -> Option<u3
 pub fn leads_to_block(sight: &Sight<'_>, block: u32, row: &[u32]) -> Option<u32>
     requires sees { Sees sight.now }
     requires block { block < length sight.now.lists.now }
-    ensures { IfSome result (LeadsBack (patches_of sight.now.heads.now) block row.now) }
+    ensures { IfSome result (LeadsBack (patches_of sight.now.heads.now.list.items) block row.now) }
 {
     let changes = newest_changes(sight, block);
     for number in newest_few(row, WIDTH) {
@@ -253,8 +251,8 @@ pub fn leads_to_block(sight: &Sight<'_>, block: u32, row: &[u32]) -> Option<u32>
 /// order in which they were made, and the newest are the furthest from the gate.
 pub fn names_lead_to(sight: &Sight<'_>, gate: u32, names: &[PatchNo]) -> bool
     requires sees { Sees sight.now }
-    requires is_open { IsOpenNumber (patches_of sight.now.heads.now) gate }
-    ensures { IsTrue result → NamesAbove (patches_of sight.now.heads.now) gate (numbers_of names.now) }
+    requires is_open { IsOpenNumber (patches_of sight.now.heads.now.list.items) gate }
+    ensures { IsTrue result → NamesAbove (patches_of sight.now.heads.now.list.items) gate (numbers_of names.now) }
 {
     let last = &names[names.len().saturating_sub(WIDTH)..];
     for name in last {

@@ -16,10 +16,10 @@ use fst_heads::test::{Test, passes};
 /// Where the patch at the index is a change of the block, not on disk, the end of the way that is known to lead back from it.
 pub fn known_end(sight: &Sight<'_>, index: usize, block: u32) -> Option<u32>
     requires sees { Sees sight.now }
-    requires inside { index < length sight.now.heads.now }
-    ensures { IfSome result (λ end. (p : Patch) → Contains (patches_of sight.now.heads.now) p → HasIndex sight.now.heads.now p.number index → LeadsBack (patches_of sight.now.heads.now) block p.dependencies end) }
+    requires inside { index < length sight.now.heads.now.list.items }
+    ensures { IfSome result (λ end. (p : Patch) → Contains (patches_of sight.now.heads.now.list.items) p → HasIndex sight.now.heads.now.list.items p.number index → LeadsBack (patches_of sight.now.heads.now.list.items) block p.dependencies end) }
 {
-    let head = &sight.heads[index];
+    let head = &sight.heads.list[index];
     if !passes(Test::LiveOn(block), head) {
         return None;
     }
@@ -35,7 +35,7 @@ pub fn known_end(sight: &Sight<'_>, index: usize, block: u32) -> Option<u32>
 /// block over the row is soft then.
 pub fn leads_over_known(sight: &Sight<'_>, block: u32, row: &[u32]) -> Option<u32>
     requires sees { Sees sight.now }
-    ensures { IfSome result (LeadsBack (patches_of sight.now.heads.now) block row.now) }
+    ensures { IfSome result (LeadsBack (patches_of sight.now.heads.now.list.items) block row.now) }
 {
     for number in row {
         if let Some(index) = sight.levels.find(sight.heads, *number) {

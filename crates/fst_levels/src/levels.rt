@@ -6,7 +6,7 @@
 ghost use Rattle.std.specs.Prelude.{vec_capacity, count_by, ◌≡◌, ◌≢◌, ◌≤◌, ◌<◌, ◌+◌, ◌++◌, ◌∷◌, [], ℕ, List, false, IsTrue, length, map, filter, Contains, AllPairs, IfOk, IfSome, IfNone, OnOk, slice_index_or};
 ghost use Rattle.fst_types.specs.Tests.{is_live};
 ghost use Rattle.fst_types.specs.Patches.{IsOn, OpenGate, Patch};
-ghost use Rattle.fst_heads.specs.Heads.{IsRising, patch_of, patches_of};
+ghost use Rattle.fst_heads.specs.Heads.{patch_of, patches_of};
 ghost use Rattle.fst_heads.specs.declared.test.Test.TheVariants as test;
 ghost use Rattle.fst_heads.specs.Indices.{HasIndex, HasNone, PassesAt};
 ghost use Rattle.fst_heads.specs.Keeps.{IsInside};
@@ -22,6 +22,7 @@ use crate::directory::Directory;
 use crate::ranks::{halve_floors, halve_ranks, keep_live, raise, raise_floor, rank_index};
 use crate::walk::Walk;
 use fst_heads::head::{Head, Kind};
+use fst_heads::heads::Heads;
 use fst_heads::places::{drop_on_disk, end_on_disk, first_on_disk};
 use std::alloc::{AllocError, Global};
 use std::marker::Model;
@@ -147,11 +148,10 @@ impl Levels {
     }
 
     /// The index of the head with the number. It is looked for among the ranks, which are far smaller than heads.
-    pub fn find(&self, heads: &[Head], number: u32) -> Option<usize>
-        requires rising { IsRising heads.now }
-        requires aligned { map (λ r. r.number) self.now.ranks ≡ map (λ p. p.number) (patches_of heads.now) }
-        ensures found { IfSome result (HasIndex heads.now number) }
-        ensures none { IfNone result (HasNone heads.now number) }
+    pub fn find(&self, heads: &Heads, number: u32) -> Option<usize>
+        requires aligned { map (λ r. r.number) self.now.ranks ≡ map (λ p. p.number) (patches_of heads.now.list.items) }
+        ensures found { IfSome result (HasIndex heads.now.list.items number) }
+        ensures none { IfNone result (HasNone heads.now.list.items number) }
     {
         let _ = heads;
         rank_index(self.ranks.as_slice(), &self.directory, number)
@@ -190,9 +190,8 @@ impl Levels {
     }
 
     /// The level of the patch with the number, and 0 where it is forgotten.
-    pub fn of(&self, heads: &[Head], number: u32) -> u32
-        requires rising { IsRising heads.now }
-        requires aligned { map (λ r. r.number) self.now.ranks ≡ map (λ p. p.number) (patches_of heads.now) }
+    pub fn of(&self, heads: &Heads, number: u32) -> u32
+        requires aligned { map (λ r. r.number) self.now.ranks ≡ map (λ p. p.number) (patches_of heads.now.list.items) }
         ensures { result ≡ level_of self.now.ranks number }
     {
         match self.find(heads, number) {
@@ -202,9 +201,8 @@ impl Levels {
     }
 
     /// The rank of the patch with the number. Where it is forgotten its level is 0, and it has no ancestor.
-    pub fn rank_of(&self, heads: &[Head], number: u32) -> Rank
-        requires rising { IsRising heads.now }
-        requires aligned { map (λ r. r.number) self.now.ranks ≡ map (λ p. p.number) (patches_of heads.now) }
+    pub fn rank_of(&self, heads: &Heads, number: u32) -> Rank
+        requires aligned { map (λ r. r.number) self.now.ranks ≡ map (λ p. p.number) (patches_of heads.now.list.items) }
         ensures number { result.number ≡ number }
         ensures level { result.level ≡ level_of self.now.ranks number }
         ensures parent { result.ancestry.parent ≡ parent_of self.now.ranks number }
@@ -222,9 +220,8 @@ impl Levels {
     }
 
     /// The greatest level of the row.
-    pub fn greatest(&self, heads: &[Head], row: &[u32]) -> u32
-        requires rising { IsRising heads.now }
-        requires aligned { map (λ r. r.number) self.now.ranks ≡ map (λ p. p.number) (patches_of heads.now) }
+    pub fn greatest(&self, heads: &Heads, row: &[u32]) -> u32
+        requires aligned { map (λ r. r.number) self.now.ranks ≡ map (λ p. p.number) (patches_of heads.now.list.items) }
         ensures { (q : ℕ) → Contains row.now q → level_of self.now.ranks q ≤ result }
     {
         let mut most = 0;
@@ -236,16 +233,15 @@ impl Levels {
 
     /// Drops the patches on disk, so many not being there, with their levels. Those before the oldest of them stay where they
     /// are, those behind the newest move in one piece, and mostly neither are looked at.
-    pub fn forget(&mut self, heads: &mut Vec<Head>, live: usize)
-        requires rising { IsRising heads.old.items }
-        requires aligned { map (λ r. r.number) self.old.ranks ≡ map (λ p. p.number) (patches_of heads.old.items) }
-        requires live { live ≡ count_by is_live (patches_of heads.old.items) }
-        ensures heads { nodes_of heads.new.items ≡ filter (λ x. is_live x.patch) (nodes_of heads.old.items) }
-        ensures ranks { self.new.ranks ≡ filter (λ r. is_live_in (patches_of heads.old.items) r.number) self.old.ranks }
+    pub fn forget(&mut self, heads: &mut Heads, live: usize)
+        requires aligned { map (λ r. r.number) self.old.ranks ≡ map (λ p. p.number) (patches_of heads.old.list.items) }
+        requires live { live ≡ count_by is_live (patches_of heads.old.list.items) }
+        ensures heads { nodes_of heads.new.list.items ≡ filter (λ x. is_live x.patch) (nodes_of heads.old.list.items) }
+        ensures ranks { self.new.ranks ≡ filter (λ r. is_live_in (patches_of heads.old.list.items) r.number) self.old.ranks }
         ensures rest { (self.new.floors ≡ self.old.floors) × (self.new.room ≡ self.old.room) }
     {
-        let first = first_on_disk(heads, live);
-        let end = end_on_disk(heads, first, live);
+        let first = first_on_disk(&heads.list, live);
+        let end = end_on_disk(&heads.list, first, live);
         keep_live(&mut self.ranks, &mut self.directory, heads, first, end);
         self.directory.follow(&self.ranks);
         drop_on_disk(heads, first, end);
@@ -268,14 +264,13 @@ impl Levels {
 
     /// The head at the index comes down to the greatest level of what it depends on and of its own, and answers whether it did:
     /// a gate that is sealed stood at the top while it was open, and so does all that was put after it.
-    pub fn lower(&mut self, heads: &[Head], index: usize) -> bool
-        requires rising { IsRising heads.now }
-        requires index { index < length heads.now }
-        requires leveled { IsLeveled (patches_of heads.now) (length self.old.floors) self.old }
-        ensures leveled { IsLeveled (patches_of heads.now) (length self.old.floors) self.new }
+    pub fn lower(&mut self, heads: &Heads, index: usize) -> bool
+        requires index { index < length heads.now.list.items }
+        requires leveled { IsLeveled (patches_of heads.now.list.items) (length self.old.floors) self.old }
+        ensures leveled { IsLeveled (patches_of heads.now.list.items) (length self.old.floors) self.new }
         ensures room { (length self.new.ranks ≡ length self.old.ranks) × (self.new.room ≡ self.old.room) }
     {
-        let head = &heads[index];
+        let head = &heads.list[index];
         let below = self.greatest(heads, head.dependencies.as_slice());
         let level = below.max(self.own_level(head));
         if level < self.level(index) {
@@ -287,24 +282,22 @@ impl Levels {
     }
 
     // The head at the index goes up to that level, and where it is a hard change in memory so does the floor of its block.
-    fn lift_one(&mut self, heads: &[Head], index: usize, to: u32)
-        requires rising { IsRising heads.now }
-        requires index { index < length heads.now }
-        requires aligned { map (λ r. r.number) self.old.ranks ≡ map (λ p. p.number) (patches_of heads.now) }
-        requires inside { IsInside (patches_of heads.now) (length self.old.floors) }
-        ensures { IsLifted (patches_of heads.now) (number_at heads.now index ∷ []) to self.old self.new }
+    fn lift_one(&mut self, heads: &Heads, index: usize, to: u32)
+        requires index { index < length heads.now.list.items }
+        requires aligned { map (λ r. r.number) self.old.ranks ≡ map (λ p. p.number) (patches_of heads.now.list.items) }
+        requires inside { IsInside (patches_of heads.now.list.items) (length self.old.floors) }
+        ensures { IsLifted (patches_of heads.now.list.items) (number_at heads.now.list.items index ∷ []) to self.old self.new }
     {
         raise(&mut self.ranks, index, to);
-        raise_floor(&mut self.floors, &heads[index], to);
+        raise_floor(&mut self.floors, &heads.list[index], to);
     }
 
     // What was met goes up to that level.
-    fn lift_all(&mut self, heads: &[Head], walk: &Walk, to: u32)
-        requires rising { IsRising heads.now }
-        requires long { length walk.now.marks ≡ length heads.now }
-        requires aligned { map (λ r. r.number) self.old.ranks ≡ map (λ p. p.number) (patches_of heads.now) }
-        requires inside { IsInside (patches_of heads.now) (length self.old.floors) }
-        ensures { IsLifted (patches_of heads.now) (numbers_met heads.now walk.now) to self.old self.new }
+    fn lift_all(&mut self, heads: &Heads, walk: &Walk, to: u32)
+        requires long { length walk.now.marks ≡ length heads.now.list.items }
+        requires aligned { map (λ r. r.number) self.old.ranks ≡ map (λ p. p.number) (patches_of heads.now.list.items) }
+        requires inside { IsInside (patches_of heads.now.list.items) (length self.old.floors) }
+        ensures { IsLifted (patches_of heads.now.list.items) (numbers_met heads.now.list.items walk.now) to self.old self.new }
     {
         for at in 0..walk.len() {
             self.lift_one(heads, walk.index_at(at), to);
@@ -325,14 +318,13 @@ impl Levels {
     }
 
     // As `lift`, but what is counted beside stays.
-    fn lift_met(&mut self, heads: &[Head], walk: &Walk, block: u32, rise: Rise)
-        requires rising { IsRising heads.now }
-        requires disk { IsOnDiskWithAll (patches_of heads.now) }
-        requires long { length walk.now.marks ≡ length heads.now }
-        requires inside { block < length self.old.floors × IsInside (patches_of heads.now) (length self.old.floors) }
-        requires leveled { IsLeveled (patches_of heads.now) (length self.old.floors) self.old }
-        requires may { IsTrue rise.lifts → MayLift (patches_of heads.now) self.old block rise.level (numbers_met heads.now walk.now) }
-        ensures leveled { IsLeveled (patches_of heads.now) (length self.old.floors) self.new }
+    fn lift_met(&mut self, heads: &Heads, walk: &Walk, block: u32, rise: Rise)
+        requires disk { IsOnDiskWithAll (patches_of heads.now.list.items) }
+        requires long { length walk.now.marks ≡ length heads.now.list.items }
+        requires inside { block < length self.old.floors × IsInside (patches_of heads.now.list.items) (length self.old.floors) }
+        requires leveled { IsLeveled (patches_of heads.now.list.items) (length self.old.floors) self.old }
+        requires may { IsTrue rise.lifts → MayLift (patches_of heads.now.list.items) self.old block rise.level (numbers_met heads.now.list.items walk.now) }
+        ensures leveled { IsLeveled (patches_of heads.now.list.items) (length self.old.floors) self.new }
         ensures below { (n : ℕ) → level_of self.old.ranks n ≤ rise.level → level_of self.new.ranks n ≤ rise.level }
         ensures lifted { IsTrue rise.lifts → floor_of self.new.floors block ≡ rise.level }
         ensures still { rise.lifts ≡ false → self.new ≡ self.old }
@@ -345,14 +337,13 @@ impl Levels {
     }
 
     /// Where the rise says so, what was met goes up to its level, and so does the floor of the block.
-    pub fn lift(&mut self, heads: &[Head], walk: &Walk, block: u32, rise: Rise)
-        requires rising { IsRising heads.now }
-        requires disk { IsOnDiskWithAll (patches_of heads.now) }
-        requires long { length walk.now.marks ≡ length heads.now }
-        requires inside { block < length self.old.floors × IsInside (patches_of heads.now) (length self.old.floors) }
-        requires leveled { IsLeveled (patches_of heads.now) (length self.old.floors) self.old }
-        requires may { IsTrue rise.lifts → MayLift (patches_of heads.now) self.old block rise.level (numbers_met heads.now walk.now) }
-        ensures leveled { IsLeveled (patches_of heads.now) (length self.old.floors) self.new }
+    pub fn lift(&mut self, heads: &Heads, walk: &Walk, block: u32, rise: Rise)
+        requires disk { IsOnDiskWithAll (patches_of heads.now.list.items) }
+        requires long { length walk.now.marks ≡ length heads.now.list.items }
+        requires inside { block < length self.old.floors × IsInside (patches_of heads.now.list.items) (length self.old.floors) }
+        requires leveled { IsLeveled (patches_of heads.now.list.items) (length self.old.floors) self.old }
+        requires may { IsTrue rise.lifts → MayLift (patches_of heads.now.list.items) self.old block rise.level (numbers_met heads.now.list.items walk.now) }
+        ensures leveled { IsLeveled (patches_of heads.now.list.items) (length self.old.floors) self.new }
         ensures below { (n : ℕ) → level_of self.old.ranks n ≤ rise.level → level_of self.new.ranks n ≤ rise.level }
         ensures lifted { IsTrue rise.lifts → floor_of self.new.floors block ≡ rise.level }
         ensures still { rise.lifts ≡ false → self.new ≡ self.old }

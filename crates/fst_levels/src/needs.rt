@@ -9,15 +9,15 @@ ghost use Rattle.std.specs.Prelude.{◌≡◌, ◌≢◌, ◌≤◌, ◌<◌, �
 ghost use Rattle.fst_types.specs.declared.grade.Grade.TheVariants as grade;
 ghost use Rattle.fst_types.specs.Facts.{IsOnDiskWithAll};
 ghost use Rattle.fst_heads.specs.Grading.{IsHardNumber};
-ghost use Rattle.fst_heads.specs.Heads.{IsRising, patches_of};
+ghost use Rattle.fst_heads.specs.Heads.{patches_of};
 ghost use Rattle.fst_heads.specs.Nodes.{nodes_of, AreSettled};
 ghost use Rattle.fst_levels.specs.declared.needs.Need.{Need};
 ghost use Rattle.fst_levels.specs.declared.needs.Way.{Way};
 ghost use Rattle.fst_levels.specs.Needing.{IsKnown, IsNeeding, IsNoted, IsPut, IsSpared, IsStoodFor, StaysOn, needs_of};
 
 use crate::shortcuts::{is_hard_in, is_hard_number, is_own};
-use fst_heads::head::{Head, Kind};
-use fst_heads::index::index_of;
+use fst_heads::head::Kind;
+use fst_heads::heads::Heads;
 use fst_heads::row::{is_live_number, pending_at};
 use fst_types::Grade;
 use std::alloc::{AllocError, Global};
@@ -78,9 +78,8 @@ fn newest_of(needs: &[Need], block: u32) -> Option<usize>
 
 // Whether the newest of the needs that was kept as a hard change of the block is one in memory. Hard changes of a block are
 // written together, so where it is not none before it is.
-fn has_hard(heads: &[Head], needs: &[Need], block: u32) -> bool
-    requires { IsRising heads.now }
-    ensures { IsTrue result → (n : ℕ) × Contains (map (λ (q : Need). q.number) needs.now) n × IsHardNumber (patches_of heads.now) block n }
+fn has_hard(heads: &Heads, needs: &[Need], block: u32) -> bool
+    ensures { IsTrue result → (n : ℕ) × Contains (map (λ (q : Need). q.number) needs.now) n × IsHardNumber (patches_of heads.now.list.items) block n }
 {
     let Some(at) = newest_of(needs, block) else {
         return false;
@@ -89,10 +88,8 @@ fn has_hard(heads: &[Head], needs: &[Need], block: u32) -> bool
 }
 
 // The block of the patch with the number, if it is a hard change in memory.
-fn hard_block_of(heads: &[Head], number: u32) -> Option<u32>
-    requires { IsRising heads.now }
-{
-    let head = &heads[index_of(heads, number)?];
+fn hard_block_of(heads: &Heads, number: u32) -> Option<u32> {
+    let head = &heads.list[heads.index_of(number)?];
     match head.kind {
         Kind::Change(_, block, _) => {
             let block = u32::from(block);
@@ -107,14 +104,13 @@ fn hard_block_of(heads: &[Head], number: u32) -> Option<u32>
 }
 
 // Whether the patch with the number is a hard change in memory for which one of the needs stands, or of that block itself.
-fn is_stood_for(heads: &[Head], needs: &[Need], block: u32, number: u32) -> bool
-    requires { IsRising heads.now }
-    ensures { IsTrue result → IsStoodFor (patches_of heads.now) block (map (λ (q : Need). q.number) needs.now) number }
+fn is_stood_for(heads: &Heads, needs: &[Need], block: u32, number: u32) -> bool
+    ensures { IsTrue result → IsStoodFor (patches_of heads.now.list.items) block (map (λ (q : Need). q.number) needs.now) number }
 {
-    let Some(index) = index_of(heads, number) else {
+    let Some(index) = heads.index_of(number) else {
         return false;
     };
-    let head = &heads[index];
+    let head = &heads.list[index];
     let Kind::Change(_, of, _) = head.kind else {
         return false;
     };
@@ -127,21 +123,19 @@ fn is_stood_for(heads: &[Head], needs: &[Need], block: u32, number: u32) -> bool
 
 // Whether the patch with the number is on disk, or nothing but changes of the block is pending of it. Once that is so it stays
 // so.
-fn stays_on(heads: &[Head], block: u32, number: u32) -> bool
-    requires rising { IsRising heads.now }
-    requires disk { IsOnDiskWithAll (patches_of heads.now) }
-    requires settled { (blocks : ℕ) × AreSettled (nodes_of heads.now) blocks }
-    ensures { IsTrue result → StaysOn (patches_of heads.now) block number }
+fn stays_on(heads: &Heads, block: u32, number: u32) -> bool
+    requires disk { IsOnDiskWithAll (patches_of heads.now.list.items) }
+    requires settled { (blocks : ℕ) × AreSettled (nodes_of heads.now.list.items) blocks }
+    ensures { IsTrue result → StaysOn (patches_of heads.now.list.items) block number }
 {
     is_own(pending_at(heads, number), block)
 }
 
 // Whether a walk that crosses the block to these needs need not go on to the patch with the number besides.
-fn is_spared(heads: &[Head], needs: &[Need], block: u32, number: u32) -> bool
-    requires rising { IsRising heads.now }
-    requires disk { IsOnDiskWithAll (patches_of heads.now) }
-    requires settled { (blocks : ℕ) × AreSettled (nodes_of heads.now) blocks }
-    ensures { IsTrue result → IsSpared (patches_of heads.now) block (map (λ (q : Need). q.number) needs.now) number }
+fn is_spared(heads: &Heads, needs: &[Need], block: u32, number: u32) -> bool
+    requires disk { IsOnDiskWithAll (patches_of heads.now.list.items) }
+    requires settled { (blocks : ℕ) × AreSettled (nodes_of heads.now.list.items) blocks }
+    ensures { IsTrue result → IsSpared (patches_of heads.now.list.items) block (map (λ (q : Need). q.number) needs.now) number }
 {
     stays_on(heads, block, number) || is_stood_for(heads, needs, block, number)
 }
@@ -184,8 +178,7 @@ impl Needs {
 
     // Room for one way more, if there is memory. Where none is left, ways whose end is on disk are dropped, and room is made
     // for as many again as then are kept, so that these are looked at seldom.
-    fn reserve_way(&mut self, heads: &[Head])
-        requires { IsRising heads.now }
+    fn reserve_way(&mut self, heads: &Heads)
         ensures lists { self.new.lists ≡ self.old.lists }
         ensures block { self.new.block ≡ self.old.block }
         ensures room { self.new.room ≡ self.old.room }
@@ -200,8 +193,7 @@ impl Needs {
     }
 
     /// Room for so many more of the block, and where there is memory for one way more.
-    pub fn reserve(&mut self, heads: &[Head], block: u32, more: usize) -> Result<(), AllocError>
-        requires rising { IsRising heads.now }
+    pub fn reserve(&mut self, heads: &Heads, block: u32, more: usize) -> Result<(), AllocError>
         requires block { block < length self.old.lists }
         ensures lists { self.new.lists ≡ self.old.lists }
         ensures ways { (w : Way) → Contains self.new.ways w → Contains self.old.ways w }
@@ -215,15 +207,14 @@ impl Needs {
     }
 
     // The block needs the patch with the number besides, unless a walk need not go on to it.
-    fn put_one(&mut self, heads: &[Head], number: u32)
-        requires rising { IsRising heads.now }
-        requires disk { IsOnDiskWithAll (patches_of heads.now) }
-        requires settled { (blocks : ℕ) × AreSettled (nodes_of heads.now) blocks }
+    fn put_one(&mut self, heads: &Heads, number: u32)
+        requires disk { IsOnDiskWithAll (patches_of heads.now.list.items) }
+        requires settled { (blocks : ℕ) × AreSettled (nodes_of heads.now.list.items) blocks }
         requires block { self.old.block < length self.old.lists }
         requires room { 1 ≤ self.old.room }
         ensures room { self.old.room ≤ self.new.room + 1 }
         ensures block { self.new.block ≡ self.old.block }
-        ensures put { IsPut (patches_of heads.now) self.old.block (number ∷ []) grade.Hard self.old.lists self.new.lists }
+        ensures put { IsPut (patches_of heads.now.list.items) self.old.block (number ∷ []) grade.Hard self.old.lists self.new.lists }
         ensures ways { self.new.ways ≡ self.old.ways }
     {
         let list = &mut self.lists[self.block as usize];
@@ -235,13 +226,12 @@ impl Needs {
     }
 
     /// A new change of the block for which there is room directly depends on the row.
-    pub fn put(&mut self, heads: &[Head], row: &[u32], grade: Grade)
-        requires rising { IsRising heads.now }
-        requires disk { IsOnDiskWithAll (patches_of heads.now) }
-        requires settled { (blocks : ℕ) × AreSettled (nodes_of heads.now) blocks }
+    pub fn put(&mut self, heads: &Heads, row: &[u32], grade: Grade)
+        requires disk { IsOnDiskWithAll (patches_of heads.now.list.items) }
+        requires settled { (blocks : ℕ) × AreSettled (nodes_of heads.now.list.items) blocks }
         requires block { self.old.block < length self.old.lists }
         requires room { length row.now ≤ self.old.room }
-        ensures put { IsPut (patches_of heads.now) self.old.block row.now grade self.old.lists self.new.lists }
+        ensures put { IsPut (patches_of heads.now.list.items) self.old.block row.now grade self.old.lists self.new.lists }
         ensures ways { self.new.ways ≡ self.old.ways }
     {
         if grade == Grade::Hard {

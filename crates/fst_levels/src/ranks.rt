@@ -3,7 +3,7 @@
 
 ghost use Rattle.std.specs.Prelude.{vec_capacity, ◌≡◌, ◌≢◌, ◌<◌, ℕ, length, map, filter, All, AllPairs, IsTrue, IfSome, IfNone, slice_index_or};
 ghost use Rattle.fst_types.specs.Patches.{IsOn};
-ghost use Rattle.fst_heads.specs.Heads.{IsRising, patch_of, patches_of};
+ghost use Rattle.fst_heads.specs.Heads.{patch_of, patches_of};
 ghost use Rattle.fst_heads.specs.Reaching.{IsHardIn};
 ghost use Rattle.fst_heads.specs.Nodes.{is_live_in};
 ghost use Rattle.fst_heads.specs.Spans.{SpansDisk};
@@ -13,6 +13,7 @@ use crate::directory::Directory;
 use crate::levels::{Rank, TOP};
 use crate::shortcuts::is_hard_in;
 use fst_heads::head::{Head, Kind};
+use fst_heads::heads::Heads;
 use fst_heads::places::is_kept;
 
 /// The head at the index is at that level.
@@ -141,19 +142,18 @@ pub fn rank_index(ranks: &[Rank], directory: &Directory, number: u32) -> Option<
 pub fn keep_live(
     ranks: &mut Vec<Rank>,
     directory: &mut Directory,
-    heads: &[Head],
+    heads: &Heads,
     first: usize,
     end: usize,
 )
-    requires rising { IsRising heads.now }
-    requires aligned { map (λ r. r.number) ranks.old.items ≡ map (λ p. p.number) (patches_of heads.now) }
-    requires disk { SpansDisk (patches_of heads.now) first end }
-    ensures ranks { ranks.new.items ≡ filter (λ r. is_live_in (patches_of heads.now) r.number) ranks.old.items }
+    requires aligned { map (λ r. r.number) ranks.old.items ≡ map (λ p. p.number) (patches_of heads.now.list.items) }
+    requires disk { SpansDisk (patches_of heads.now.list.items) first end }
+    ensures ranks { ranks.new.items ≡ filter (λ r. is_live_in (patches_of heads.now.list.items) r.number) ranks.old.items }
     ensures capacity { vec_capacity ranks.new ≡ vec_capacity ranks.old }
 {
     let mut kept = first;
     for index in first..end {
-        if is_kept(&heads[index]) {
+        if is_kept(&heads.list[index]) {
             ranks[kept] = ranks[index];
             kept += 1;
         } else {

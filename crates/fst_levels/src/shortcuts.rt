@@ -10,7 +10,7 @@ ghost use Rattle.fst_types.specs.Gates.{IsOpenNumber};
 ghost use Rattle.fst_types.specs.Tests.{is_change_at};
 ghost use Rattle.fst_heads.specs.declared.pending.Pending.TheVariants as pending;
 ghost use Rattle.fst_heads.specs.declared.test.Test.TheVariants as test;
-ghost use Rattle.fst_heads.specs.Heads.{IsRising, kind_of, patch_of, patches_of};
+ghost use Rattle.fst_heads.specs.Heads.{kind_of, patch_of, patches_of};
 ghost use Rattle.fst_heads.specs.Indices.{PassesAt};
 ghost use Rattle.fst_heads.specs.Tests.{is_hard_kind};
 ghost use Rattle.fst_heads.specs.Grading.{HasUnder, IsHardNumber, LeadsNowhere};
@@ -22,7 +22,7 @@ use crate::sight::Sight;
 use crate::under_hard::is_known_under;
 use fst_heads::choice::is_hard;
 use fst_heads::head::{Head, Kind};
-use fst_heads::index::index_of;
+use fst_heads::heads::Heads;
 use fst_heads::pending::{Pending, is_pending};
 use fst_heads::places::is_change_at;
 use fst_heads::row::row_pending;
@@ -32,10 +32,10 @@ use fst_types::Place;
 /// Whether the patch with the number passes.
 pub fn passes_at(sight: &Sight<'_>, test: Test, number: u32) -> bool
     requires { Sees sight.now }
-    ensures { IsTrue result ↔ PassesAt test (patches_of sight.now.heads.now) number }
+    ensures { IsTrue result ↔ PassesAt test (patches_of sight.now.heads.now.list.items) number }
 {
     match sight.levels.find(sight.heads, number) {
-        Some(index) => passes(test, &sight.heads[index]),
+        Some(index) => passes(test, &sight.heads.list[index]),
         None => false,
     }
 }
@@ -43,7 +43,7 @@ pub fn passes_at(sight: &Sight<'_>, test: Test, number: u32) -> bool
 /// Whether an open gate is in the row or below it.
 pub fn waits_for_gate(sight: &Sight<'_>, row: &[u32]) -> bool
     requires { Sees sight.now }
-    ensures { IsTrue result ↔ HasUnder (patches_of sight.now.heads.now) row.now (IsOpenNumber (patches_of sight.now.heads.now)) }
+    ensures { IsTrue result ↔ HasUnder (patches_of sight.now.heads.now.list.items) row.now (IsOpenNumber (patches_of sight.now.heads.now.list.items)) }
 {
     is_pending(row_pending(sight.heads, row), Pending::Held)
 }
@@ -62,10 +62,10 @@ pub(crate) fn is_own(told: Pending, block: u32) -> bool
 // What is pending of the patch with the number.
 fn pending_of(sight: &Sight<'_>, number: u32) -> Pending
     requires { Sees sight.now }
-    ensures { result ≡ pending_in (nodes_of sight.now.heads.now) number }
+    ensures { result ≡ pending_in (nodes_of sight.now.heads.now.list.items) number }
 {
     match sight.levels.find(sight.heads, number) {
-        Some(index) => sight.heads[index].pending,
+        Some(index) => sight.heads.list[index].pending,
         None => Pending::Nothing,
     }
 }
@@ -74,7 +74,7 @@ fn pending_of(sight: &Sight<'_>, number: u32) -> Pending
 // depends on: a group's first change comes after such a one.
 fn waits_for_own(sight: &Sight<'_>, block: u32, number: u32) -> bool
     requires { Sees sight.now }
-    ensures { IsTrue result → LeadsNowhere (patches_of sight.now.heads.now) block (number ∷ []) }
+    ensures { IsTrue result → LeadsNowhere (patches_of sight.now.heads.now.list.items) block (number ∷ []) }
 {
     if is_own(pending_of(sight, number), block) {
         return true;
@@ -82,7 +82,7 @@ fn waits_for_own(sight: &Sight<'_>, block: u32, number: u32) -> bool
     let Some(index) = sight.levels.find(sight.heads, number) else {
         return false;
     };
-    let head = &sight.heads[index];
+    let head = &sight.heads.list[index];
     match head.kind {
         Kind::OpenGate => {
             let below = row_pending(sight.heads, head.dependencies.as_slice());
@@ -96,7 +96,7 @@ fn waits_for_own(sight: &Sight<'_>, block: u32, number: u32) -> bool
 /// another block that is not on disk lies below it, and no way leads from it back to the block.
 pub fn waits_for_own_block(sight: &Sight<'_>, block: u32, row: &[u32]) -> bool
     requires { Sees sight.now }
-    ensures { IsTrue result → LeadsNowhere (patches_of sight.now.heads.now) block row.now }
+    ensures { IsTrue result → LeadsNowhere (patches_of sight.now.heads.now.list.items) block row.now }
 {
     for number in row {
         if !waits_for_own(sight, block, *number) {
@@ -114,12 +114,11 @@ pub fn is_hard_in(head: &Head, block: u32) -> bool
 }
 
 // Whether the number is that of such a change.
-pub(crate) fn is_hard_number(heads: &[Head], block: u32, number: u32) -> bool
-    requires { IsRising heads.now }
-    ensures { IsTrue result ↔ IsHardNumber (patches_of heads.now) block number }
+pub(crate) fn is_hard_number(heads: &Heads, block: u32, number: u32) -> bool
+    ensures { IsTrue result ↔ IsHardNumber (patches_of heads.now.list.items) block number }
 {
-    match index_of(heads, number) {
-        Some(index) => is_hard_in(&heads[index], block),
+    match heads.index_of(number) {
+        Some(index) => is_hard_in(&heads.list[index], block),
         None => false,
     }
 }
@@ -127,10 +126,10 @@ pub(crate) fn is_hard_number(heads: &[Head], block: u32, number: u32) -> bool
 /// Whether the number is that of a hard change of the block in memory, where it is looked for as in a search.
 pub fn is_hard_at(sight: &Sight<'_>, block: u32, number: u32) -> bool
     requires { Sees sight.now }
-    ensures { IsTrue result ↔ IsHardNumber (patches_of sight.now.heads.now) block number }
+    ensures { IsTrue result ↔ IsHardNumber (patches_of sight.now.heads.now.list.items) block number }
 {
     match sight.levels.find(sight.heads, number) {
-        Some(index) => is_hard_in(&sight.heads[index], block),
+        Some(index) => is_hard_in(&sight.heads.list[index], block),
         None => false,
     }
 }
@@ -168,10 +167,10 @@ pub fn is_found(row: &[u32], number: u32) -> bool
 /// What the patch with the number directly depends on, or nothing where it is forgotten.
 pub fn row_below<'a>(sight: &Sight<'a>, number: u32) -> &'a [u32]
     requires { Sees sight.now }
-    ensures { (q : ℕ) → Contains result.now q → DirectlyOn (patches_of sight.now.heads.now) number q }
+    ensures { (q : ℕ) → Contains result.now q → DirectlyOn (patches_of sight.now.heads.now.list.items) number q }
 {
     match sight.levels.find(sight.heads, number) {
-        Some(index) => sight.heads[index].dependencies.as_slice(),
+        Some(index) => sight.heads.list[index].dependencies.as_slice(),
         None => &[],
     }
 }
@@ -189,7 +188,7 @@ pub fn newest_few(row: &[u32], most: usize) -> &[u32]
 pub fn is_clean(sight: &Sight<'_>, block: u32) -> bool
     requires sees { Sees sight.now }
     requires block { block < length sight.now.lists.now }
-    ensures { IsTrue result → (row : List ℕ) → LeadsNowhere (patches_of sight.now.heads.now) block row }
+    ensures { IsTrue result → (row : List ℕ) → LeadsNowhere (patches_of sight.now.heads.now.list.items) block row }
 {
     let list = sight.lists[block as usize].as_slice();
     list.is_empty()
@@ -200,7 +199,7 @@ pub fn is_clean(sight: &Sight<'_>, block: u32) -> bool
 pub fn stays_below(sight: &Sight<'_>, block: u32, row: &[u32]) -> bool
     requires sees { Sees sight.now }
     requires block { block < length sight.now.lists.now }
-    ensures { IsTrue result → LeadsNowhere (patches_of sight.now.heads.now) block row.now }
+    ensures { IsTrue result → LeadsNowhere (patches_of sight.now.heads.now.list.items) block row.now }
 {
     let floor = sight.levels.floor(block);
     for number in row {

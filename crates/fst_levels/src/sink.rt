@@ -4,23 +4,22 @@
 
 ghost use Rattle.std.specs.Prelude.{◌≡◌, ◌<◌, ℕ, List, length, map};
 ghost use Rattle.fst_types.specs.Patches.{IsRising as PatchesRise, Patch};
-ghost use Rattle.fst_heads.specs.Heads.{IsRising, patches_of};
+ghost use Rattle.fst_heads.specs.Heads.{patches_of};
 ghost use Rattle.fst_heads.specs.Lists.{entries_of, AreListed};
 ghost use Rattle.fst_levels.specs.Leveling.{IsLeveled};
 
 use crate::levels::{Levels, TOP};
 use crate::shortcuts::newest;
 use crate::walk::Walk;
-use fst_heads::head::Head;
+use fst_heads::heads::Heads;
 use fst_heads::lists::Listed;
 
 // How long a row is looked through each time that one of it has come down. A longer one is only as the newest of it does.
 const LONGEST: usize = 64;
 
 // Whether nothing of the row is at the top any more, of which that patch has come down last.
-fn is_down(levels: &Levels, heads: &[Head], row: &[u32], last: u32) -> bool
-    requires rising { IsRising heads.now }
-    requires leveled { IsLeveled (patches_of heads.now) (length levels.now.floors) levels.now }
+fn is_down(levels: &Levels, heads: &Heads, row: &[u32], last: u32) -> bool
+    requires leveled { IsLeveled (patches_of heads.now.list.items) (length levels.now.floors) levels.now }
 {
     if row.len() > LONGEST && newest(row) != Some(last) {
         return false;
@@ -35,13 +34,12 @@ fn is_down(levels: &Levels, heads: &[Head], row: &[u32], last: u32) -> bool
 
 // The patch with the number comes down from the top, where nothing that it depends on is there any more, of which that patch
 // has come down last. It is met then.
-fn sink_one(levels: &mut Levels, heads: &[Head], walk: &mut Walk, number: u32, last: u32)
-    requires rising { IsRising heads.now }
-    requires leveled { IsLeveled (patches_of heads.now) (length levels.old.floors) levels.old }
-    requires long { length walk.old.marks ≡ length heads.now }
-    ensures leveled { IsLeveled (patches_of heads.now) (length levels.old.floors) levels.new }
+fn sink_one(levels: &mut Levels, heads: &Heads, walk: &mut Walk, number: u32, last: u32)
+    requires leveled { IsLeveled (patches_of heads.now.list.items) (length levels.old.floors) levels.old }
+    requires long { length walk.old.marks ≡ length heads.now.list.items }
+    ensures leveled { IsLeveled (patches_of heads.now.list.items) (length levels.old.floors) levels.new }
     ensures levels { (length levels.new.ranks ≡ length levels.old.ranks) × (levels.new.room ≡ levels.old.room) }
-    ensures long { length walk.new.marks ≡ length heads.now }
+    ensures long { length walk.new.marks ≡ length heads.now.list.items }
     ensures room { walk.new.room ≡ walk.old.room }
 {
     let Some(index) = levels.find(heads, number) else {
@@ -50,37 +48,35 @@ fn sink_one(levels: &mut Levels, heads: &[Head], walk: &mut Walk, number: u32, l
     if levels.level(index) < TOP {
         return;
     }
-    let row = heads[index].dependencies.as_slice();
+    let row = heads.list[index].dependencies.as_slice();
     if is_down(levels, heads, row, last) && levels.lower(heads, index) {
         walk.meet(index);
     }
 }
 
 // What directly depends on the patch at the index, which has come down, comes down where it can.
-fn sink_dependants(levels: &mut Levels, heads: &[Head], walk: &mut Walk, index: usize)
-    requires rising { IsRising heads.now }
-    requires index { index < length heads.now }
-    requires leveled { IsLeveled (patches_of heads.now) (length levels.old.floors) levels.old }
-    requires long { length walk.old.marks ≡ length heads.now }
-    ensures leveled { IsLeveled (patches_of heads.now) (length levels.old.floors) levels.new }
+fn sink_dependants(levels: &mut Levels, heads: &Heads, walk: &mut Walk, index: usize)
+    requires index { index < length heads.now.list.items }
+    requires leveled { IsLeveled (patches_of heads.now.list.items) (length levels.old.floors) levels.old }
+    requires long { length walk.old.marks ≡ length heads.now.list.items }
+    ensures leveled { IsLeveled (patches_of heads.now.list.items) (length levels.old.floors) levels.new }
     ensures levels { (length levels.new.ranks ≡ length levels.old.ranks) × (levels.new.room ≡ levels.old.room) }
-    ensures long { length walk.new.marks ≡ length heads.now }
+    ensures long { length walk.new.marks ≡ length heads.now.list.items }
     ensures room { walk.new.room ≡ walk.old.room }
 {
-    let head = &heads[index];
+    let head = &heads.list[index];
     for over in head.dependants.as_slice() {
         sink_one(levels, heads, walk, *over, head.number);
     }
 }
 
 /// What stands over the patch with the number comes down from the top, where that has. What was met before does not matter.
-pub fn sink_over(levels: &mut Levels, heads: &[Head], walk: &mut Walk, number: u32)
-    requires rising { IsRising heads.now }
-    requires leveled { IsLeveled (patches_of heads.now) (length levels.old.floors) levels.old }
-    requires long { length walk.old.marks ≡ length heads.now }
-    ensures leveled { IsLeveled (patches_of heads.now) (length levels.old.floors) levels.new }
+pub fn sink_over(levels: &mut Levels, heads: &Heads, walk: &mut Walk, number: u32)
+    requires leveled { IsLeveled (patches_of heads.now.list.items) (length levels.old.floors) levels.old }
+    requires long { length walk.old.marks ≡ length heads.now.list.items }
+    ensures leveled { IsLeveled (patches_of heads.now.list.items) (length levels.old.floors) levels.new }
     ensures levels { (length levels.new.ranks ≡ length levels.old.ranks) × (levels.new.room ≡ levels.old.room) }
-    ensures long { length walk.new.marks ≡ length heads.now }
+    ensures long { length walk.new.marks ≡ length heads.now.list.items }
     ensures room { walk.new.room ≡ walk.old.room }
 {
     walk.clear();

@@ -9,7 +9,7 @@
 
 ghost use Rattle.std.specs.Prelude.{◌≡◌, ◌<◌, ◌↔◌, ℕ, IsTrue, length, map};
 ghost use Rattle.fst_types.specs.Dependencies.{DependsOn};
-ghost use Rattle.fst_heads.specs.Heads.{IsRising, patches_of};
+ghost use Rattle.fst_heads.specs.Heads.{patches_of};
 ghost use Rattle.fst_heads.specs.Indices.{HasIndex};
 ghost use Rattle.fst_levels.specs.Ancestors.{LieUnder};
 ghost use Rattle.fst_levels.specs.Leveling.{IsLeveled, hard_over_of};
@@ -21,18 +21,18 @@ use crate::levels::Levels;
 use crate::shortcuts::is_hard_in;
 use crate::sight::Sight;
 use crate::walk::Walk;
-use fst_heads::head::{Head, Kind};
+use fst_heads::head::Kind;
+use fst_heads::heads::Heads;
 use fst_heads::test::{Test, is_live, passes};
 use fst_types::Grade;
 
 /// Whether the patch at the index is a hard change of the block in memory, or such a one is kept over it.
-pub fn is_under_hard(levels: &Levels, heads: &[Head], block: u32, index: usize) -> bool
-    requires rising { IsRising heads.now }
-    requires aligned { map (λ r. r.number) levels.now.ranks ≡ map (λ p. p.number) (patches_of heads.now) }
-    requires inside { index < length heads.now }
-    ensures { (n : ℕ) → HasIndex heads.now n index → IsTrue result ↔ IsKeptUnder (patches_of heads.now) (hard_over_of levels.now.ranks) block n }
+pub fn is_under_hard(levels: &Levels, heads: &Heads, block: u32, index: usize) -> bool
+    requires aligned { map (λ r. r.number) levels.now.ranks ≡ map (λ p. p.number) (patches_of heads.now.list.items) }
+    requires inside { index < length heads.now.list.items }
+    ensures { (n : ℕ) → HasIndex heads.now.list.items n index → IsTrue result ↔ IsKeptUnder (patches_of heads.now.list.items) (hard_over_of levels.now.ranks) block n }
 {
-    if is_hard_in(&heads[index], block) {
+    if is_hard_in(&heads.list[index], block) {
         return true;
     }
     let over = levels.hard_over(index);
@@ -40,7 +40,7 @@ pub fn is_under_hard(levels: &Levels, heads: &[Head], block: u32, index: usize) 
         return false;
     }
     match levels.find(heads, over) {
-        Some(at) => is_hard_in(&heads[at], block),
+        Some(at) => is_hard_in(&heads.list[at], block),
         None => false,
     }
 }
@@ -48,7 +48,7 @@ pub fn is_under_hard(levels: &Levels, heads: &[Head], block: u32, index: usize) 
 /// Whether the patch with the number is a hard change of the block in memory, or known to be below one.
 pub(crate) fn is_known_under(sight: &Sight<'_>, block: u32, number: u32) -> bool
     requires { Sees sight.now }
-    ensures { IsTrue result → IsUnderHard (patches_of sight.now.heads.now) block number }
+    ensures { IsTrue result → IsUnderHard (patches_of sight.now.heads.now.list.items) block number }
 {
     match sight.levels.find(sight.heads, number) {
         Some(index) => is_under_hard(sight.levels, sight.heads, block, index),
@@ -66,17 +66,16 @@ struct Top {
 
 // Keeps the hard change as the one over the patch with the number, which is below it: if that is not on disk, no change of
 // another block and no lower, and neither is hard and in memory nor has such a one of the block kept over it. It is met then.
-fn keep_over(levels: &mut Levels, heads: &[Head], walk: &mut Walk, top: Top, number: u32)
-    requires rising { IsRising heads.now }
-    requires leveled { IsLeveled (patches_of heads.now) (length levels.old.floors) levels.old }
-    requires long { length walk.old.marks ≡ length heads.now }
-    requires below { DependsOn (patches_of heads.now) top.number number }
-    requires met { LieUnder (patches_of heads.now) top.number (numbers_met heads.now walk.old) }
-    ensures leveled { IsLeveled (patches_of heads.now) (length levels.old.floors) levels.new }
+fn keep_over(levels: &mut Levels, heads: &Heads, walk: &mut Walk, top: Top, number: u32)
+    requires leveled { IsLeveled (patches_of heads.now.list.items) (length levels.old.floors) levels.old }
+    requires long { length walk.old.marks ≡ length heads.now.list.items }
+    requires below { DependsOn (patches_of heads.now.list.items) top.number number }
+    requires met { LieUnder (patches_of heads.now.list.items) top.number (numbers_met heads.now.list.items walk.old) }
+    ensures leveled { IsLeveled (patches_of heads.now.list.items) (length levels.old.floors) levels.new }
     ensures levels { (length levels.new.ranks ≡ length levels.old.ranks) × (levels.new.room ≡ levels.old.room) }
-    ensures long { length walk.new.marks ≡ length heads.now }
+    ensures long { length walk.new.marks ≡ length heads.now.list.items }
     ensures room { walk.new.room ≡ walk.old.room }
-    ensures met { LieUnder (patches_of heads.now) top.number (numbers_met heads.now walk.new) }
+    ensures met { LieUnder (patches_of heads.now.list.items) top.number (numbers_met heads.now.list.items walk.new) }
 {
     let Some(index) = levels.find(heads, number) else {
         return;
@@ -84,7 +83,7 @@ fn keep_over(levels: &mut Levels, heads: &[Head], walk: &mut Walk, top: Top, num
     if levels.level(index) < top.level {
         return;
     }
-    let head = &heads[index];
+    let head = &heads.list[index];
     if !is_live(head.place) || passes(Test::LiveOff(top.block), head) {
         return;
     }
@@ -96,19 +95,18 @@ fn keep_over(levels: &mut Levels, heads: &[Head], walk: &mut Walk, top: Top, num
 }
 
 // Keeps it so over what the patch that was met there in turn directly depends on.
-fn keep_below(levels: &mut Levels, heads: &[Head], walk: &mut Walk, top: Top, at: usize)
-    requires rising { IsRising heads.now }
-    requires leveled { IsLeveled (patches_of heads.now) (length levels.old.floors) levels.old }
-    requires long { length walk.old.marks ≡ length heads.now }
+fn keep_below(levels: &mut Levels, heads: &Heads, walk: &mut Walk, top: Top, at: usize)
+    requires leveled { IsLeveled (patches_of heads.now.list.items) (length levels.old.floors) levels.old }
+    requires long { length walk.old.marks ≡ length heads.now.list.items }
     requires at { at < length walk.old.met }
-    requires met { LieUnder (patches_of heads.now) top.number (numbers_met heads.now walk.old) }
-    ensures leveled { IsLeveled (patches_of heads.now) (length levels.old.floors) levels.new }
+    requires met { LieUnder (patches_of heads.now.list.items) top.number (numbers_met heads.now.list.items walk.old) }
+    ensures leveled { IsLeveled (patches_of heads.now.list.items) (length levels.old.floors) levels.new }
     ensures levels { (length levels.new.ranks ≡ length levels.old.ranks) × (levels.new.room ≡ levels.old.room) }
-    ensures long { length walk.new.marks ≡ length heads.now }
+    ensures long { length walk.new.marks ≡ length heads.now.list.items }
     ensures room { walk.new.room ≡ walk.old.room }
-    ensures met { LieUnder (patches_of heads.now) top.number (numbers_met heads.now walk.new) }
+    ensures met { LieUnder (patches_of heads.now.list.items) top.number (numbers_met heads.now.list.items walk.new) }
 {
-    let head = &heads[walk.index_at(at)];
+    let head = &heads.list[walk.index_at(at)];
     for number in head.dependencies.as_slice() {
         keep_over(levels, heads, walk, top, *number);
     }
@@ -116,20 +114,19 @@ fn keep_below(levels: &mut Levels, heads: &[Head], walk: &mut Walk, top: Top, at
 
 /// Keeps the change with the number, if it is hard, as the one over what lies below it, as far as no change of another block
 /// lies between. What was met before does not matter.
-pub fn keep_under(levels: &mut Levels, heads: &[Head], walk: &mut Walk, number: u32)
-    requires rising { IsRising heads.now }
-    requires leveled { IsLeveled (patches_of heads.now) (length levels.old.floors) levels.old }
-    requires long { length walk.old.marks ≡ length heads.now }
-    ensures leveled { IsLeveled (patches_of heads.now) (length levels.old.floors) levels.new }
+pub fn keep_under(levels: &mut Levels, heads: &Heads, walk: &mut Walk, number: u32)
+    requires leveled { IsLeveled (patches_of heads.now.list.items) (length levels.old.floors) levels.old }
+    requires long { length walk.old.marks ≡ length heads.now.list.items }
+    ensures leveled { IsLeveled (patches_of heads.now.list.items) (length levels.old.floors) levels.new }
     ensures levels { (length levels.new.ranks ≡ length levels.old.ranks) × (levels.new.room ≡ levels.old.room) }
-    ensures long { length walk.new.marks ≡ length heads.now }
+    ensures long { length walk.new.marks ≡ length heads.now.list.items }
     ensures room { walk.new.room ≡ walk.old.room }
 {
     walk.clear();
     let Some(index) = levels.find(heads, number) else {
         return;
     };
-    let Kind::Change(Grade::Hard, block, _) = heads[index].kind else {
+    let Kind::Change(Grade::Hard, block, _) = heads.list[index].kind else {
         return;
     };
     walk.meet(index);

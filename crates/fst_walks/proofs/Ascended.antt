@@ -64,9 +64,6 @@ visits_on Steps turn queue new inside v = record {
   only = λ n c. elim (v.only n c) [ inl old ↦ inl old | inr s ↦ inr (get_or queue turn 0, Contains-get_or queue turn 0 inside, one s) ];
 }
 
-pub goes_nowhere : (Steps : ℕ → ℕ → Type 0) (queue : List ℕ) → GoesOn Steps queue queue
-goes_nowhere Steps queue = record { kept = ([], sym (append-nil queue)); only = λ n c. inl c }
-
 -- and what is done stays done
 pub climbing_on : (Steps : ℕ → ℕ → Type 0) (start : List ℕ) (at : ℕ) (queue new : List ℕ) → at ≤ length queue → Climbing Steps start at queue → GoesOn Steps queue new → Climbing Steps start at new
 climbing_on Steps start at queue new past x on = record {

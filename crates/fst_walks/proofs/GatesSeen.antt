@@ -24,7 +24,7 @@ module _ (heads : List Head) (blocks : ℕ) (rising : HeadsRise heads) (acyclic 
       (held_by_gates (nodes_of heads) blocks (rw (patches_in_nodes heads) (rising_patches heads rising)) (rw (patches_in_nodes heads) acyclic) (rw (patches_in_nodes heads) D) S)
 
 -- what a search sees tells of the open gates
-pub gates_seen : (sight : Sight) → Sees sight → TellsGates sight.heads.now
+pub gates_seen : (sight : Sight) → Sees sight → TellsGates sight.heads.now.list.items
 gates_seen sight s =
-    let heads = sight.heads.now in
-    record { live = heads_live heads _ s.rising s.acyclic s.disk s.settled; held = heads_held heads _ s.rising s.acyclic s.disk s.settled }
+    let heads = sight.heads.now.list.items in
+    record { live = heads_live heads _ sight.heads.now.rising s.acyclic s.disk s.settled; held = heads_held heads _ sight.heads.now.rising s.acyclic s.disk s.settled }

@@ -1,5 +1,5 @@
 -- What was visited, and what is visited besides.
-use Rattle.std.proofs.Common.{◌≡◌, ◌⊎◌, ◌<◌, ◌≤◌, ℕ, List, [], ◌∷◌, ◌++◌, Option, None, Some, IfNone, IfSome, is_some, false, length, map, get_or, Contains, refl, sym, ap, subst, ◌∙◌, inl, inr, arith}
+use Rattle.std.proofs.Common.{◌≡◌, ◌⊎◌, ◌<◌, ◌≤◌, ℕ, List, [], ◌∷◌, ◌++◌, Option, None, Some, IfNone, IfSome, is_some, false, true, length, map, get_or, Contains, refl, sym, ap, subst, ◌∙◌, inl, inr, arith}
 use Rattle.std.proofs.lemmas.{Bool.{cases_lt, false≢true}, List.{append-nil, append_assoc, get_or_append_left, length-append, map_push}}
 use Rattle.std.proofs.lemmas.List.Elements.{Contains-append_left, Contains-push, Contains-push_cases}
 use Rattle.fst_types.specs.Dependencies.{IsLiveNumber}
@@ -100,6 +100,11 @@ some_both (Some x) p q f = f x p q
 pub none_then : {X : Type 0} (r : Option X) {P Q : Type 0} → IfNone r P → (P → Q) → IfNone r Q
 none_then None h f = f h
 none_then (Some x) h f = tt
+
+-- what follows where there is one
+pub some_told : {X : Type 0} (r : Option X) {P : X → Type 0} {Q : Type 0} → IfSome r P → is_some r ≡ true → ((x : X) → P x → Q) → Q
+some_told None h e f = absurd (false≢true e)
+some_told (Some x) h e f = f x h
 
 -- and what is said where there is none, if there is none
 pub none_told : {X : Type 0} (r : Option X) {P : Type 0} → IfNone r P → is_some r ≡ false → P

@@ -23,7 +23,7 @@ const LONGEST: usize = 64;
 // Whether each of the row is in the other row or a hard change of the block in memory, over which no way leads back.
 fn is_within(sight: &Sight<'_>, block: u32, row: &[u32], other: &[u32]) -> bool
     requires { Sees sight.now }
-    ensures { IsTrue result → (n : ℕ) → Contains row.now n → Contains other.now n ⊎ IsHardNumber (patches_of sight.now.heads.now) block n }
+    ensures { IsTrue result → (n : ℕ) → Contains row.now n → Contains other.now n ⊎ IsHardNumber (patches_of sight.now.heads.now.list.items) block n }
 {
     if row.len() > LONGEST {
         return false;
@@ -39,10 +39,10 @@ fn is_within(sight: &Sight<'_>, block: u32, row: &[u32], other: &[u32]) -> bool
 // What the change at the index tells of a new change of its block with that row, if anything.
 fn told_by(sight: &Sight<'_>, index: usize, block: u32, row: &[u32]) -> Option<Graded>
     requires sees { Sees sight.now }
-    requires inside { index < length sight.now.heads.now }
-    ensures { IfSome result (IsTold (patches_of sight.now.heads.now) block row.now (LeadsNowhere (patches_of sight.now.heads.now) block row.now)) }
+    requires inside { index < length sight.now.heads.now.list.items }
+    ensures { IfSome result (IsTold (patches_of sight.now.heads.now.list.items) block row.now (LeadsNowhere (patches_of sight.now.heads.now.list.items) block row.now)) }
 {
-    let head = &sight.heads[index];
+    let head = &sight.heads.list[index];
     let other = head.dependencies.as_slice();
     if is_hard_in(head, block) {
         if is_within(sight, block, row, other) {
@@ -63,7 +63,7 @@ fn told_by(sight: &Sight<'_>, index: usize, block: u32, row: &[u32]) -> Option<G
 pub fn told_before(sight: &Sight<'_>, block: u32, row: &[u32]) -> Option<Graded>
     requires sees { Sees sight.now }
     requires block { block < length sight.now.lists.now }
-    ensures { IfSome result (IsTold (patches_of sight.now.heads.now) block row.now (LeadsNowhere (patches_of sight.now.heads.now) block row.now)) }
+    ensures { IfSome result (IsTold (patches_of sight.now.heads.now.list.items) block row.now (LeadsNowhere (patches_of sight.now.heads.now.list.items) block row.now)) }
 {
     let list = sight.lists[block as usize].as_slice();
     let newest = &list[list.len().saturating_sub(NEWEST)..];

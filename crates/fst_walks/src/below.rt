@@ -45,12 +45,12 @@ fn most_looks(changes: usize) -> usize {
 // The first change of the block that the walk met at that turn or later.
 fn meets_change(sight: &Sight<'_>, walk: &Walk, from: usize, block: u32) -> Option<u32>
     requires sees { Sees sight.now }
-    requires walk { length walk.now.marks ≡ length sight.now.heads.now }
-    ensures met { IfSome result (λ n. Contains (numbers_met sight.now.heads.now walk.now) n × PassesAt (test.LiveOn block) (patches_of sight.now.heads.now) n) }
-    ensures none { IfNone result ((at : ℕ) → from ≤ at → at < length walk.now.met → PassesAt (test.LiveOn block) (patches_of sight.now.heads.now) (slice_index_or (numbers_met sight.now.heads.now walk.now) at 0) → ⊥) }
+    requires walk { length walk.now.marks ≡ length sight.now.heads.now.list.items }
+    ensures met { IfSome result (λ n. Contains (numbers_met sight.now.heads.now.list.items walk.now) n × PassesAt (test.LiveOn block) (patches_of sight.now.heads.now.list.items) n) }
+    ensures none { IfNone result ((at : ℕ) → from ≤ at → at < length walk.now.met → PassesAt (test.LiveOn block) (patches_of sight.now.heads.now.list.items) (slice_index_or (numbers_met sight.now.heads.now.list.items walk.now) at 0) → ⊥) }
 {
     for at in from..walk.len() {
-        let head = &sight.heads[walk.index_at(at)];
+        let head = &sight.heads.list[walk.index_at(at)];
         if passes(Test::LiveOn(block), head) {
             return Some(head.number);
         }
@@ -68,16 +68,16 @@ fn turn(
     least: u32,
 ) -> (Option<u32>, usize)
     requires sees { Sees sight.now }
-    requires down { IsOver sight.now.heads.now (length sight.now.lists.now) down.old }
-    requires visited { Visited sight.now.heads.now down.old.walk }
-    requires away { IsAwayFrom (patches_of sight.now.heads.now) block (numbers_met sight.now.heads.now down.old.walk) }
+    requires down { IsOver sight.now.heads.now.list.items (length sight.now.lists.now) down.old }
+    requires visited { Visited sight.now.heads.now.list.items down.old.walk }
+    requires away { IsAwayFrom (patches_of sight.now.heads.now.list.items) block (numbers_met sight.now.heads.now.list.items down.old.walk) }
     requires at { at < length down.old.walk.met }
-    ensures down { IsOver sight.now.heads.now (length sight.now.lists.now) down.new }
-    ensures visited { Visited sight.now.heads.now down.new.walk }
-    ensures visits { Visits (StepsHigh (patches_of sight.now.heads.now) (level_of sight.now.levels.now.ranks) least (needs_of sight.now.needs.now.lists) down.old.crossed.items (slice_index_or (numbers_met sight.now.heads.now down.old.walk) at 0)) (numbers_met sight.now.heads.now down.old.walk) (numbers_met sight.now.heads.now down.new.walk) }
-    ensures crossed { ShowsBlockUnder (patches_of sight.now.heads.now) (slice_index_or (numbers_met sight.now.heads.now down.old.walk) at 0) down.old.crossed.items down.new.crossed.items }
-    ensures met { IfSome result.0 (λ n. Contains (numbers_met sight.now.heads.now down.new.walk) n × PassesAt (test.LiveOn block) (patches_of sight.now.heads.now) n) }
-    ensures away { IfNone result.0 (IsAwayFrom (patches_of sight.now.heads.now) block (numbers_met sight.now.heads.now down.new.walk)) }
+    ensures down { IsOver sight.now.heads.now.list.items (length sight.now.lists.now) down.new }
+    ensures visited { Visited sight.now.heads.now.list.items down.new.walk }
+    ensures visits { Visits (StepsHigh (patches_of sight.now.heads.now.list.items) (level_of sight.now.levels.now.ranks) least (needs_of sight.now.needs.now.lists) down.old.crossed.items (slice_index_or (numbers_met sight.now.heads.now.list.items down.old.walk) at 0)) (numbers_met sight.now.heads.now.list.items down.old.walk) (numbers_met sight.now.heads.now.list.items down.new.walk) }
+    ensures crossed { ShowsBlockUnder (patches_of sight.now.heads.now.list.items) (slice_index_or (numbers_met sight.now.heads.now.list.items down.old.walk) at 0) down.old.crossed.items down.new.crossed.items }
+    ensures met { IfSome result.0 (λ n. Contains (numbers_met sight.now.heads.now.list.items down.new.walk) n × PassesAt (test.LiveOn block) (patches_of sight.now.heads.now.list.items) n) }
+    ensures away { IfNone result.0 (IsAwayFrom (patches_of sight.now.heads.now.list.items) block (numbers_met sight.now.heads.now.list.items down.new.walk)) }
 {
     let from = down.walk.len();
     let looked = step_down(sight, &mut down.walk, &mut down.crossed, at, least);
@@ -94,12 +94,12 @@ fn descend(
     most: usize,
 ) -> Option<Option<u32>>
     requires sees { Sees sight.now }
-    requires down { IsOver sight.now.heads.now (length sight.now.lists.now) down.old }
-    requires visited { Visited sight.now.heads.now down.old.walk }
-    requires away { IsAwayFrom (patches_of sight.now.heads.now) block (numbers_met sight.now.heads.now down.old.walk) }
-    ensures down { IsOver sight.now.heads.now (length sight.now.lists.now) down.new }
-    ensures met { IfSome result (λ met. IfSome met (ComesTo (patches_of sight.now.heads.now) (level_of sight.now.levels.now.ranks) least (needs_of sight.now.needs.now.lists) down.old.crossed.items block (numbers_met sight.now.heads.now down.old.walk))) }
-    ensures none { IfSome result (λ met. IfNone met ((n : ℕ) → ComesTo (patches_of sight.now.heads.now) (level_of sight.now.levels.now.ranks) least (needs_of sight.now.needs.now.lists) down.old.crossed.items block (numbers_met sight.now.heads.now down.old.walk) n → ⊥)) }
+    requires down { IsOver sight.now.heads.now.list.items (length sight.now.lists.now) down.old }
+    requires visited { Visited sight.now.heads.now.list.items down.old.walk }
+    requires away { IsAwayFrom (patches_of sight.now.heads.now.list.items) block (numbers_met sight.now.heads.now.list.items down.old.walk) }
+    ensures down { IsOver sight.now.heads.now.list.items (length sight.now.lists.now) down.new }
+    ensures met { IfSome result (λ met. IfSome met (ComesTo (patches_of sight.now.heads.now.list.items) (level_of sight.now.levels.now.ranks) least (needs_of sight.now.needs.now.lists) down.old.crossed.items block (numbers_met sight.now.heads.now.list.items down.old.walk))) }
+    ensures none { IfSome result (λ met. IfNone met ((n : ℕ) → ComesTo (patches_of sight.now.heads.now.list.items) (level_of sight.now.levels.now.ranks) least (needs_of sight.now.needs.now.lists) down.old.crossed.items block (numbers_met sight.now.heads.now.list.items down.old.walk) n → ⊥)) }
 {
     let mut left = most;
     let mut at = 0;
@@ -130,10 +130,10 @@ pub fn grade_below(
     row: &[u32],
 ) -> Option<Graded>
     requires sees { Sees sight.now }
-    requires down { IsOver sight.now.heads.now (length sight.now.lists.now) down.old }
+    requires down { IsOver sight.now.heads.now.list.items (length sight.now.lists.now) down.old }
     requires block { block < length sight.now.lists.now }
-    ensures told { IfSome result (IsTold (patches_of sight.now.heads.now) block row.now (LeadsNowhere (patches_of sight.now.heads.now) block row.now)) }
-    ensures down { IsOver sight.now.heads.now (length sight.now.lists.now) down.new }
+    ensures told { IfSome result (IsTold (patches_of sight.now.heads.now.list.items) block row.now (LeadsNowhere (patches_of sight.now.heads.now.list.items) block row.now)) }
+    ensures down { IsOver sight.now.heads.now.list.items (length sight.now.lists.now) down.new }
 {
     down.cross_only(block);
     let most = most_looks(sight.lists[block as usize].len());

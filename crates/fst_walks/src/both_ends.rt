@@ -30,8 +30,8 @@ use fst_levels::walk::Walk;
 // The greatest level of what the walk has met.
 fn highest(sight: &Sight<'_>, walk: &Walk) -> u32
     requires sees { Sees sight.now }
-    requires visited { Visited sight.now.heads.now walk.now }
-    ensures { (n : ℕ) → Contains (numbers_met sight.now.heads.now walk.now) n → level_of sight.now.levels.now.ranks n ≤ result }
+    requires visited { Visited sight.now.heads.now.list.items walk.now }
+    ensures { (n : ℕ) → Contains (numbers_met sight.now.heads.now.list.items walk.now) n → level_of sight.now.levels.now.ranks n ≤ result }
 {
     let mut most = 0;
     for at in 0..walk.len() {
@@ -49,18 +49,18 @@ fn turn_up(
     looked: &mut Looked,
 ) -> Option<usize>
     requires sees { Sees sight.now }
-    requires up { IsOver sight.now.heads.now (length sight.now.lists.now) ends.old.up }
-    requires visited_up { Visited sight.now.heads.now ends.old.up.walk }
-    requires visited_down { Visited sight.now.heads.now ends.old.down.walk }
-    requires apart { AreApart (numbers_met sight.now.heads.now ends.old.up.walk) (numbers_met sight.now.heads.now ends.old.down.walk) }
+    requires up { IsOver sight.now.heads.now.list.items (length sight.now.lists.now) ends.old.up }
+    requires visited_up { Visited sight.now.heads.now.list.items ends.old.up.walk }
+    requires visited_down { Visited sight.now.heads.now.list.items ends.old.down.walk }
+    requires apart { AreApart (numbers_met sight.now.heads.now.list.items ends.old.up.walk) (numbers_met sight.now.heads.now.list.items ends.old.down.walk) }
     requires at { at < length ends.old.up.walk.met }
-    ensures up { IsOver sight.now.heads.now (length sight.now.lists.now) ends.new.up }
-    ensures visited { Visited sight.now.heads.now ends.new.up.walk }
-    ensures visits { Visits (StepsLow (patches_of sight.now.heads.now) (level_of sight.now.levels.now.ranks) most ends.old.up.crossed.items (slice_index_or (numbers_met sight.now.heads.now ends.old.up.walk) at 0)) (numbers_met sight.now.heads.now ends.old.up.walk) (numbers_met sight.now.heads.now ends.new.up.walk) }
-    ensures crossed { ShowsBlockOf (patches_of sight.now.heads.now) (slice_index_or (numbers_met sight.now.heads.now ends.old.up.walk) at 0) ends.old.up.crossed.items ends.new.up.crossed.items }
+    ensures up { IsOver sight.now.heads.now.list.items (length sight.now.lists.now) ends.new.up }
+    ensures visited { Visited sight.now.heads.now.list.items ends.new.up.walk }
+    ensures visits { Visits (StepsLow (patches_of sight.now.heads.now.list.items) (level_of sight.now.levels.now.ranks) most ends.old.up.crossed.items (slice_index_or (numbers_met sight.now.heads.now.list.items ends.old.up.walk) at 0)) (numbers_met sight.now.heads.now.list.items ends.old.up.walk) (numbers_met sight.now.heads.now.list.items ends.new.up.walk) }
+    ensures crossed { ShowsBlockOf (patches_of sight.now.heads.now.list.items) (slice_index_or (numbers_met sight.now.heads.now.list.items ends.old.up.walk) at 0) ends.old.up.crossed.items ends.new.up.crossed.items }
     ensures down { ends.new.down ≡ ends.old.down }
-    ensures met { IfSome result (λ index. (n : ℕ) × HasIndex sight.now.heads.now n index × Contains (numbers_met sight.now.heads.now ends.new.up.walk) n × Contains (numbers_met sight.now.heads.now ends.old.down.walk) n) }
-    ensures apart { IfNone result (AreApart (numbers_met sight.now.heads.now ends.new.up.walk) (numbers_met sight.now.heads.now ends.old.down.walk)) }
+    ensures met { IfSome result (λ index. (n : ℕ) × HasIndex sight.now.heads.now.list.items n index × Contains (numbers_met sight.now.heads.now.list.items ends.new.up.walk) n × Contains (numbers_met sight.now.heads.now.list.items ends.old.down.walk) n) }
+    ensures apart { IfNone result (AreApart (numbers_met sight.now.heads.now.list.items ends.new.up.walk) (numbers_met sight.now.heads.now.list.items ends.old.down.walk)) }
 {
     let from = ends.up.walk.len();
     let more = step_up(sight, &mut ends.up.walk, &mut ends.up.crossed, at, most);
@@ -77,18 +77,18 @@ fn turn_down(
     looked: &mut Looked,
 ) -> Option<usize>
     requires sees { Sees sight.now }
-    requires down { IsOver sight.now.heads.now (length sight.now.lists.now) ends.old.down }
-    requires visited_up { Visited sight.now.heads.now ends.old.up.walk }
-    requires visited_down { Visited sight.now.heads.now ends.old.down.walk }
-    requires apart { AreApart (numbers_met sight.now.heads.now ends.old.up.walk) (numbers_met sight.now.heads.now ends.old.down.walk) }
+    requires down { IsOver sight.now.heads.now.list.items (length sight.now.lists.now) ends.old.down }
+    requires visited_up { Visited sight.now.heads.now.list.items ends.old.up.walk }
+    requires visited_down { Visited sight.now.heads.now.list.items ends.old.down.walk }
+    requires apart { AreApart (numbers_met sight.now.heads.now.list.items ends.old.up.walk) (numbers_met sight.now.heads.now.list.items ends.old.down.walk) }
     requires at { at < length ends.old.down.walk.met }
-    ensures down { IsOver sight.now.heads.now (length sight.now.lists.now) ends.new.down }
-    ensures visited { Visited sight.now.heads.now ends.new.down.walk }
-    ensures visits { Visits (StepsHigh (patches_of sight.now.heads.now) (level_of sight.now.levels.now.ranks) least (needs_of sight.now.needs.now.lists) ends.old.down.crossed.items (slice_index_or (numbers_met sight.now.heads.now ends.old.down.walk) at 0)) (numbers_met sight.now.heads.now ends.old.down.walk) (numbers_met sight.now.heads.now ends.new.down.walk) }
-    ensures crossed { ShowsBlockUnder (patches_of sight.now.heads.now) (slice_index_or (numbers_met sight.now.heads.now ends.old.down.walk) at 0) ends.old.down.crossed.items ends.new.down.crossed.items }
+    ensures down { IsOver sight.now.heads.now.list.items (length sight.now.lists.now) ends.new.down }
+    ensures visited { Visited sight.now.heads.now.list.items ends.new.down.walk }
+    ensures visits { Visits (StepsHigh (patches_of sight.now.heads.now.list.items) (level_of sight.now.levels.now.ranks) least (needs_of sight.now.needs.now.lists) ends.old.down.crossed.items (slice_index_or (numbers_met sight.now.heads.now.list.items ends.old.down.walk) at 0)) (numbers_met sight.now.heads.now.list.items ends.old.down.walk) (numbers_met sight.now.heads.now.list.items ends.new.down.walk) }
+    ensures crossed { ShowsBlockUnder (patches_of sight.now.heads.now.list.items) (slice_index_or (numbers_met sight.now.heads.now.list.items ends.old.down.walk) at 0) ends.old.down.crossed.items ends.new.down.crossed.items }
     ensures up { ends.new.up ≡ ends.old.up }
-    ensures met { IfSome result (λ index. (n : ℕ) × HasIndex sight.now.heads.now n index × Contains (numbers_met sight.now.heads.now ends.old.up.walk) n × Contains (numbers_met sight.now.heads.now ends.new.down.walk) n) }
-    ensures apart { IfNone result (AreApart (numbers_met sight.now.heads.now ends.old.up.walk) (numbers_met sight.now.heads.now ends.new.down.walk)) }
+    ensures met { IfSome result (λ index. (n : ℕ) × HasIndex sight.now.heads.now.list.items n index × Contains (numbers_met sight.now.heads.now.list.items ends.old.up.walk) n × Contains (numbers_met sight.now.heads.now.list.items ends.new.down.walk) n) }
+    ensures apart { IfNone result (AreApart (numbers_met sight.now.heads.now.list.items ends.old.up.walk) (numbers_met sight.now.heads.now.list.items ends.new.down.walk)) }
 {
     let from = ends.down.walk.len();
     let more = step_down(
@@ -114,16 +114,16 @@ fn meet_between(
     limit: usize,
 ) -> Option<Option<usize>>
     requires sees { Sees sight.now }
-    requires up { IsOver sight.now.heads.now (length sight.now.lists.now) ends.old.up }
-    requires down { IsOver sight.now.heads.now (length sight.now.lists.now) ends.old.down }
-    requires visited_up { Visited sight.now.heads.now ends.old.up.walk }
-    requires visited_down { Visited sight.now.heads.now ends.old.down.walk }
-    requires apart { AreApart (numbers_met sight.now.heads.now ends.old.up.walk) (numbers_met sight.now.heads.now ends.old.down.walk) }
-    ensures up { IsOver sight.now.heads.now (length sight.now.lists.now) ends.new.up }
-    ensures down { IsOver sight.now.heads.now (length sight.now.lists.now) ends.new.down }
-    ensures together { IfSome result (λ met. IfSome met (λ index. (n : ℕ) × HasIndex sight.now.heads.now n index × LeadTogether (patches_of sight.now.heads.now) (level_of sight.now.levels.now.ranks) (needs_of sight.now.needs.now.lists) most least ends.old.up.crossed.items ends.old.down.crossed.items (numbers_met sight.now.heads.now ends.old.up.walk) (numbers_met sight.now.heads.now ends.old.down.walk) n)) }
-    ensures visited { Visited sight.now.heads.now ends.new.up.walk }
-    ensures apart { IfSome result (λ met. IfNone met (EndApart (patches_of sight.now.heads.now) (level_of sight.now.levels.now.ranks) (needs_of sight.now.needs.now.lists) most least ends.old.up.crossed.items ends.old.down.crossed.items (numbers_met sight.now.heads.now ends.old.up.walk) (numbers_met sight.now.heads.now ends.old.down.walk) (numbers_met sight.now.heads.now ends.new.up.walk) (numbers_met sight.now.heads.now ends.new.down.walk))) }
+    requires up { IsOver sight.now.heads.now.list.items (length sight.now.lists.now) ends.old.up }
+    requires down { IsOver sight.now.heads.now.list.items (length sight.now.lists.now) ends.old.down }
+    requires visited_up { Visited sight.now.heads.now.list.items ends.old.up.walk }
+    requires visited_down { Visited sight.now.heads.now.list.items ends.old.down.walk }
+    requires apart { AreApart (numbers_met sight.now.heads.now.list.items ends.old.up.walk) (numbers_met sight.now.heads.now.list.items ends.old.down.walk) }
+    ensures up { IsOver sight.now.heads.now.list.items (length sight.now.lists.now) ends.new.up }
+    ensures down { IsOver sight.now.heads.now.list.items (length sight.now.lists.now) ends.new.down }
+    ensures together { IfSome result (λ met. IfSome met (λ index. (n : ℕ) × HasIndex sight.now.heads.now.list.items n index × LeadTogether (patches_of sight.now.heads.now.list.items) (level_of sight.now.levels.now.ranks) (needs_of sight.now.needs.now.lists) most least ends.old.up.crossed.items ends.old.down.crossed.items (numbers_met sight.now.heads.now.list.items ends.old.up.walk) (numbers_met sight.now.heads.now.list.items ends.old.down.walk) n)) }
+    ensures visited { Visited sight.now.heads.now.list.items ends.new.up.walk }
+    ensures apart { IfSome result (λ met. IfNone met (EndApart (patches_of sight.now.heads.now.list.items) (level_of sight.now.levels.now.ranks) (needs_of sight.now.needs.now.lists) most least ends.old.up.crossed.items ends.old.down.crossed.items (numbers_met sight.now.heads.now.list.items ends.old.up.walk) (numbers_met sight.now.heads.now.list.items ends.old.down.walk) (numbers_met sight.now.heads.now.list.items ends.new.up.walk) (numbers_met sight.now.heads.now.list.items ends.new.down.walk))) }
     ensures decided { IfNone result (limit < 18446744073709551615) }
 {
     let mut looked = Looked { up: 0, down: 0 };
@@ -178,13 +178,13 @@ fn grade_within(
     limit: usize,
 ) -> Option<Graded>
     requires sees { Sees sight.now }
-    requires up { IsOver sight.now.heads.now (length sight.now.lists.now) ends.old.up }
-    requires down { IsOver sight.now.heads.now (length sight.now.lists.now) ends.old.down }
+    requires up { IsOver sight.now.heads.now.list.items (length sight.now.lists.now) ends.old.up }
+    requires down { IsOver sight.now.heads.now.list.items (length sight.now.lists.now) ends.old.down }
     requires block { block < length sight.now.lists.now }
-    ensures told { IfSome result (IsTold (patches_of sight.now.heads.now) block row.now (LeadsNowhere (patches_of sight.now.heads.now) block row.now)) }
+    ensures told { IfSome result (IsTold (patches_of sight.now.heads.now.list.items) block row.now (LeadsNowhere (patches_of sight.now.heads.now.list.items) block row.now)) }
     ensures decided { IfNone result (limit < 18446744073709551615) }
-    ensures up { IsOver sight.now.heads.now (length sight.now.lists.now) ends.new.up }
-    ensures down { IsOver sight.now.heads.now (length sight.now.lists.now) ends.new.down }
+    ensures up { IsOver sight.now.heads.now.list.items (length sight.now.lists.now) ends.new.up }
+    ensures down { IsOver sight.now.heads.now.list.items (length sight.now.lists.now) ends.new.down }
 {
     ends.down.cross_only(block);
     // No way up falls, so none goes through what is lower than the floor, nor to what is met now through what is higher than that.
@@ -214,12 +214,12 @@ fn grade_within(
 /// the change comes after thousands, it mostly leads back from some of them.
 pub fn grade_between(sight: &Sight<'_>, ends: &mut Ends, block: u32, row: &[u32]) -> Graded
     requires sees { Sees sight.now }
-    requires up { IsOver sight.now.heads.now (length sight.now.lists.now) ends.old.up }
-    requires down { IsOver sight.now.heads.now (length sight.now.lists.now) ends.old.down }
+    requires up { IsOver sight.now.heads.now.list.items (length sight.now.lists.now) ends.old.up }
+    requires down { IsOver sight.now.heads.now.list.items (length sight.now.lists.now) ends.old.down }
     requires block { block < length sight.now.lists.now }
-    ensures told { IsTold (patches_of sight.now.heads.now) block row.now (LeadsNowhere (patches_of sight.now.heads.now) block row.now) result }
-    ensures up { IsOver sight.now.heads.now (length sight.now.lists.now) ends.new.up }
-    ensures down { IsOver sight.now.heads.now (length sight.now.lists.now) ends.new.down }
+    ensures told { IsTold (patches_of sight.now.heads.now.list.items) block row.now (LeadsNowhere (patches_of sight.now.heads.now.list.items) block row.now) result }
+    ensures up { IsOver sight.now.heads.now.list.items (length sight.now.lists.now) ends.new.up }
+    ensures down { IsOver sight.now.heads.now.list.items (length sight.now.lists.now) ends.new.down }
 {
     if let Some(told) = grade_within(sight, ends, block, row, FEW) {
         return told;

@@ -34,12 +34,12 @@ use fst_types::PatchNo;
 /// Visits the patch with the number if it waits for an open gate.
 pub(crate) fn visit_held(sight: &Sight<'_>, walk: &mut Walk, number: u32)
     requires sees { Sees sight.now }
-    requires visited { Visited sight.now.heads.now walk.old }
-    ensures visited { Visited sight.now.heads.now walk.new }
-    ensures visits { Visits (λ n. (n ≡ number) × (pending_in (nodes_of sight.now.heads.now) n ≡ pending.Held)) (numbers_met sight.now.heads.now walk.old) (numbers_met sight.now.heads.now walk.new) }
+    requires visited { Visited sight.now.heads.now.list.items walk.old }
+    ensures visited { Visited sight.now.heads.now.list.items walk.new }
+    ensures visits { Visits (λ n. (n ≡ number) × (pending_in (nodes_of sight.now.heads.now.list.items) n ≡ pending.Held)) (numbers_met sight.now.heads.now.list.items walk.old) (numbers_met sight.now.heads.now.list.items walk.new) }
 {
     if let Some(index) = sight.levels.find(sight.heads, number) {
-        if is_pending(sight.heads[index].pending, Pending::Held) {
+        if is_pending(sight.heads.list[index].pending, Pending::Held) {
             walk.meet(index);
         }
     }
@@ -48,9 +48,9 @@ pub(crate) fn visit_held(sight: &Sight<'_>, walk: &mut Walk, number: u32)
 /// Visits those of the row that wait for an open gate.
 pub(crate) fn visit_row(sight: &Sight<'_>, walk: &mut Walk, row: &[u32])
     requires sees { Sees sight.now }
-    requires visited { Visited sight.now.heads.now walk.old }
-    ensures visited { Visited sight.now.heads.now walk.new }
-    ensures visits { Visits (λ n. Contains row.now n × (pending_in (nodes_of sight.now.heads.now) n ≡ pending.Held)) (numbers_met sight.now.heads.now walk.old) (numbers_met sight.now.heads.now walk.new) }
+    requires visited { Visited sight.now.heads.now.list.items walk.old }
+    ensures visited { Visited sight.now.heads.now.list.items walk.new }
+    ensures visits { Visits (λ n. Contains row.now n × (pending_in (nodes_of sight.now.heads.now.list.items) n ≡ pending.Held)) (numbers_met sight.now.heads.now.list.items walk.old) (numbers_met sight.now.heads.now.list.items walk.new) }
 {
     for number in row {
         visit_held(sight, walk, *number);
@@ -61,13 +61,13 @@ pub(crate) fn visit_row(sight: &Sight<'_>, walk: &mut Walk, row: &[u32])
 // at.
 fn step_above(sight: &Sight<'_>, walk: &mut Walk, at: usize) -> usize
     requires sees { Sees sight.now }
-    requires visited { Visited sight.now.heads.now walk.old }
+    requires visited { Visited sight.now.heads.now.list.items walk.old }
     requires at { at < length walk.old.met }
-    ensures visited { Visited sight.now.heads.now walk.new }
-    ensures visits { Visits (IsNextAbove (patches_of sight.now.heads.now) (pending_in (nodes_of sight.now.heads.now)) (slice_index_or (numbers_met sight.now.heads.now walk.old) at 0)) (numbers_met sight.now.heads.now walk.old) (numbers_met sight.now.heads.now walk.new) }
+    ensures visited { Visited sight.now.heads.now.list.items walk.new }
+    ensures visits { Visits (IsNextAbove (patches_of sight.now.heads.now.list.items) (pending_in (nodes_of sight.now.heads.now.list.items)) (slice_index_or (numbers_met sight.now.heads.now.list.items walk.old) at 0)) (numbers_met sight.now.heads.now.list.items walk.old) (numbers_met sight.now.heads.now.list.items walk.new) }
 {
     let index = walk.index_at(at);
-    let row = sight.heads[index].dependants.as_slice();
+    let row = sight.heads.list[index].dependants.as_slice();
     visit_row(sight, walk, row);
     row.len()
 }
@@ -75,13 +75,13 @@ fn step_above(sight: &Sight<'_>, walk: &mut Walk, at: usize) -> usize
 // Visits those that it directly depends on and that wait for an open gate. Answers how many it looked at.
 fn step_held(sight: &Sight<'_>, walk: &mut Walk, at: usize) -> usize
     requires sees { Sees sight.now }
-    requires visited { Visited sight.now.heads.now walk.old }
+    requires visited { Visited sight.now.heads.now.list.items walk.old }
     requires at { at < length walk.old.met }
-    ensures visited { Visited sight.now.heads.now walk.new }
-    ensures visits { Visits (IsNextHeld (patches_of sight.now.heads.now) (pending_in (nodes_of sight.now.heads.now)) (slice_index_or (numbers_met sight.now.heads.now walk.old) at 0)) (numbers_met sight.now.heads.now walk.old) (numbers_met sight.now.heads.now walk.new) }
+    ensures visited { Visited sight.now.heads.now.list.items walk.new }
+    ensures visits { Visits (IsNextHeld (patches_of sight.now.heads.now.list.items) (pending_in (nodes_of sight.now.heads.now.list.items)) (slice_index_or (numbers_met sight.now.heads.now.list.items walk.old) at 0)) (numbers_met sight.now.heads.now.list.items walk.old) (numbers_met sight.now.heads.now.list.items walk.new) }
 {
     let index = walk.index_at(at);
-    let row = sight.heads[index].dependencies.as_slice();
+    let row = sight.heads.list[index].dependencies.as_slice();
     visit_row(sight, walk, row);
     row.len()
 }
@@ -89,12 +89,12 @@ fn step_held(sight: &Sight<'_>, walk: &mut Walk, at: usize) -> usize
 // A step of the walk up from what it met there in turn. Answers whether it met what the walk down has met.
 fn turn_up(sight: &Sight<'_>, ends: &mut Ends, at: usize, looked: &mut Looked) -> bool
     requires sees { Sees sight.now }
-    requires apart { WalkApart sight.now.heads.now ends.old }
+    requires apart { WalkApart sight.now.heads.now.list.items ends.old }
     requires at { at < length ends.old.up.walk.met }
-    ensures visits { Visits (IsNextAbove (patches_of sight.now.heads.now) (pending_in (nodes_of sight.now.heads.now)) (slice_index_or (numbers_met sight.now.heads.now ends.old.up.walk) at 0)) (numbers_met sight.now.heads.now ends.old.up.walk) (numbers_met sight.now.heads.now ends.new.up.walk) }
-    ensures met { IsTrue result → ((n : ℕ) × Contains (numbers_met sight.now.heads.now ends.new.up.walk) n × Contains (numbers_met sight.now.heads.now ends.old.down.walk) n) }
-    ensures apart { result ≡ false → WalkApart sight.now.heads.now ends.new }
-    ensures over { AreOver sight.now.heads.now ends.new }
+    ensures visits { Visits (IsNextAbove (patches_of sight.now.heads.now.list.items) (pending_in (nodes_of sight.now.heads.now.list.items)) (slice_index_or (numbers_met sight.now.heads.now.list.items ends.old.up.walk) at 0)) (numbers_met sight.now.heads.now.list.items ends.old.up.walk) (numbers_met sight.now.heads.now.list.items ends.new.up.walk) }
+    ensures met { IsTrue result → ((n : ℕ) × Contains (numbers_met sight.now.heads.now.list.items ends.new.up.walk) n × Contains (numbers_met sight.now.heads.now.list.items ends.old.down.walk) n) }
+    ensures apart { result ≡ false → WalkApart sight.now.heads.now.list.items ends.new }
+    ensures over { AreOver sight.now.heads.now.list.items ends.new }
     ensures down { ends.new.down ≡ ends.old.down }
     ensures crossed { ends.new.up.crossed ≡ ends.old.up.crossed }
 {
@@ -107,12 +107,12 @@ fn turn_up(sight: &Sight<'_>, ends: &mut Ends, at: usize, looked: &mut Looked) -
 // A step of the walk down from what it met there in turn. Answers whether it met what the walk up has met.
 fn turn_down(sight: &Sight<'_>, ends: &mut Ends, at: usize, looked: &mut Looked) -> bool
     requires sees { Sees sight.now }
-    requires apart { WalkApart sight.now.heads.now ends.old }
+    requires apart { WalkApart sight.now.heads.now.list.items ends.old }
     requires at { at < length ends.old.down.walk.met }
-    ensures visits { Visits (IsNextHeld (patches_of sight.now.heads.now) (pending_in (nodes_of sight.now.heads.now)) (slice_index_or (numbers_met sight.now.heads.now ends.old.down.walk) at 0)) (numbers_met sight.now.heads.now ends.old.down.walk) (numbers_met sight.now.heads.now ends.new.down.walk) }
-    ensures met { IsTrue result → ((n : ℕ) × Contains (numbers_met sight.now.heads.now ends.old.up.walk) n × Contains (numbers_met sight.now.heads.now ends.new.down.walk) n) }
-    ensures apart { result ≡ false → WalkApart sight.now.heads.now ends.new }
-    ensures over { AreOver sight.now.heads.now ends.new }
+    ensures visits { Visits (IsNextHeld (patches_of sight.now.heads.now.list.items) (pending_in (nodes_of sight.now.heads.now.list.items)) (slice_index_or (numbers_met sight.now.heads.now.list.items ends.old.down.walk) at 0)) (numbers_met sight.now.heads.now.list.items ends.old.down.walk) (numbers_met sight.now.heads.now.list.items ends.new.down.walk) }
+    ensures met { IsTrue result → ((n : ℕ) × Contains (numbers_met sight.now.heads.now.list.items ends.old.up.walk) n × Contains (numbers_met sight.now.heads.now.list.items ends.new.down.walk) n) }
+    ensures apart { result ≡ false → WalkApart sight.now.heads.now.list.items ends.new }
+    ensures over { AreOver sight.now.heads.now.list.items ends.new }
     ensures up { ends.new.up ≡ ends.old.up }
     ensures crossed { ends.new.down.crossed ≡ ends.old.down.crossed }
 {
@@ -156,13 +156,13 @@ fn turn_up_last(
     looked: &mut Looked,
 ) -> bool
     requires sees { Sees sight.now }
-    requires apart { WalkApart sight.now.heads.now ends.old }
+    requires apart { WalkApart sight.now.heads.now.list.items ends.old }
     requires at { at < length ends.old.up.walk.met }
     requires deep { deep.old ≤ length ends.old.up.walk.met }
-    ensures goes_on { GoesOn (IsNextAbove (patches_of sight.now.heads.now) (pending_in (nodes_of sight.now.heads.now))) (numbers_met sight.now.heads.now ends.old.up.walk) (numbers_met sight.now.heads.now ends.new.up.walk) }
-    ensures met { IsTrue result → ((n : ℕ) × Contains (numbers_met sight.now.heads.now ends.new.up.walk) n × Contains (numbers_met sight.now.heads.now ends.old.down.walk) n) }
-    ensures apart { result ≡ false → WalkApart sight.now.heads.now ends.new }
-    ensures over { AreOver sight.now.heads.now ends.new }
+    ensures goes_on { GoesOn (IsNextAbove (patches_of sight.now.heads.now.list.items) (pending_in (nodes_of sight.now.heads.now.list.items))) (numbers_met sight.now.heads.now.list.items ends.old.up.walk) (numbers_met sight.now.heads.now.list.items ends.new.up.walk) }
+    ensures met { IsTrue result → ((n : ℕ) × Contains (numbers_met sight.now.heads.now.list.items ends.new.up.walk) n × Contains (numbers_met sight.now.heads.now.list.items ends.old.down.walk) n) }
+    ensures apart { result ≡ false → WalkApart sight.now.heads.now.list.items ends.new }
+    ensures over { AreOver sight.now.heads.now.list.items ends.new }
     ensures down { ends.new.down ≡ ends.old.down }
     ensures crossed { ends.new.up.crossed ≡ ends.old.up.crossed }
     ensures deep { deep.new ≤ length ends.new.up.walk.met }
@@ -170,7 +170,7 @@ fn turn_up_last(
     let before = ends.up.walk.len();
     let last = turn_from_end(*deep, at, before);
     *deep = last;
-    if !is_short(row_above(sight.heads, &ends.up.walk, last), looked.up) {
+    if !is_short(row_above(&sight.heads.list, &ends.up.walk, last), looked.up) {
         return false;
     }
     let met = turn_up(sight, ends, last, looked);
@@ -190,13 +190,13 @@ fn turn_down_last(
     looked: &mut Looked,
 ) -> bool
     requires sees { Sees sight.now }
-    requires apart { WalkApart sight.now.heads.now ends.old }
+    requires apart { WalkApart sight.now.heads.now.list.items ends.old }
     requires at { at < length ends.old.down.walk.met }
     requires deep { deep.old ≤ length ends.old.down.walk.met }
-    ensures goes_on { GoesOn (IsNextHeld (patches_of sight.now.heads.now) (pending_in (nodes_of sight.now.heads.now))) (numbers_met sight.now.heads.now ends.old.down.walk) (numbers_met sight.now.heads.now ends.new.down.walk) }
-    ensures met { IsTrue result → ((n : ℕ) × Contains (numbers_met sight.now.heads.now ends.old.up.walk) n × Contains (numbers_met sight.now.heads.now ends.new.down.walk) n) }
-    ensures apart { result ≡ false → WalkApart sight.now.heads.now ends.new }
-    ensures over { AreOver sight.now.heads.now ends.new }
+    ensures goes_on { GoesOn (IsNextHeld (patches_of sight.now.heads.now.list.items) (pending_in (nodes_of sight.now.heads.now.list.items))) (numbers_met sight.now.heads.now.list.items ends.old.down.walk) (numbers_met sight.now.heads.now.list.items ends.new.down.walk) }
+    ensures met { IsTrue result → ((n : ℕ) × Contains (numbers_met sight.now.heads.now.list.items ends.old.up.walk) n × Contains (numbers_met sight.now.heads.now.list.items ends.new.down.walk) n) }
+    ensures apart { result ≡ false → WalkApart sight.now.heads.now.list.items ends.new }
+    ensures over { AreOver sight.now.heads.now.list.items ends.new }
     ensures up { ends.new.up ≡ ends.old.up }
     ensures crossed { ends.new.down.crossed ≡ ends.old.down.crossed }
     ensures deep { deep.new ≤ length ends.new.down.walk.met }
@@ -204,7 +204,10 @@ fn turn_down_last(
     let before = ends.down.walk.len();
     let last = turn_from_end(*deep, at, before);
     *deep = last;
-    if !is_short(row_below(sight.heads, &ends.down.walk, last), looked.down) {
+    if !is_short(
+        row_below(&sight.heads.list, &ends.down.walk, last),
+        looked.down,
+    ) {
         return false;
     }
     let met = turn_down(sight, ends, last, looked);
@@ -245,11 +248,11 @@ fn goes_up(heads: &[Head], ends: &Ends, up_at: usize, down_at: usize, looked: Lo
 // a gate.
 fn walks_meet(sight: &Sight<'_>, ends: &mut Ends) -> bool
     requires sees { Sees sight.now }
-    requires up { Visited sight.now.heads.now ends.old.up.walk }
-    requires down { Visited sight.now.heads.now ends.old.down.walk }
-    ensures meet { IsTrue result → ((n : ℕ) × IsBetween (patches_of sight.now.heads.now) (pending_in (nodes_of sight.now.heads.now)) (numbers_met sight.now.heads.now ends.old.up.walk) (numbers_met sight.now.heads.now ends.old.down.walk) n) }
-    ensures apart { result ≡ false → StayApart (patches_of sight.now.heads.now) (pending_in (nodes_of sight.now.heads.now)) (numbers_met sight.now.heads.now ends.old.up.walk) (numbers_met sight.now.heads.now ends.old.down.walk) (numbers_met sight.now.heads.now ends.new.up.walk) (numbers_met sight.now.heads.now ends.new.down.walk) }
-    ensures over { AreOver sight.now.heads.now ends.new }
+    requires up { Visited sight.now.heads.now.list.items ends.old.up.walk }
+    requires down { Visited sight.now.heads.now.list.items ends.old.down.walk }
+    ensures meet { IsTrue result → ((n : ℕ) × IsBetween (patches_of sight.now.heads.now.list.items) (pending_in (nodes_of sight.now.heads.now.list.items)) (numbers_met sight.now.heads.now.list.items ends.old.up.walk) (numbers_met sight.now.heads.now.list.items ends.old.down.walk) n) }
+    ensures apart { result ≡ false → StayApart (patches_of sight.now.heads.now.list.items) (pending_in (nodes_of sight.now.heads.now.list.items)) (numbers_met sight.now.heads.now.list.items ends.old.up.walk) (numbers_met sight.now.heads.now.list.items ends.old.down.walk) (numbers_met sight.now.heads.now.list.items ends.new.up.walk) (numbers_met sight.now.heads.now.list.items ends.new.down.walk) }
+    ensures over { AreOver sight.now.heads.now.list.items ends.new }
     ensures crossed { (ends.new.up.crossed ≡ ends.old.up.crossed) × (ends.new.down.crossed ≡ ends.old.down.crossed) }
 {
     if meets(sight, &ends.up.walk, &ends.down.walk, 0).is_some() {
@@ -261,7 +264,7 @@ fn walks_meet(sight: &Sight<'_>, ends: &mut Ends) -> bool
     let mut up_deep = 0;
     let mut down_deep = 0;
     while up_at < ends.up.walk.len() && down_at < ends.down.walk.len() {
-        if goes_up(sight.heads, ends, up_at, down_at, looked) {
+        if goes_up(&sight.heads.list, ends, up_at, down_at, looked) {
             if turn_up(sight, ends, up_at, &mut looked) {
                 return true;
             }
@@ -290,10 +293,10 @@ pub(crate) fn starts_close(
     starts: Starts<'_>,
 ) -> bool
     requires sees { Sees sight.now }
-    requires over { AreOver sight.now.heads.now ends.old }
-    requires is_open { IsOpenNumber (patches_of sight.now.heads.now) gate }
-    ensures close { IsTrue result ↔ StartsAbove (patches_of sight.now.heads.now) gate starts.entry }
-    ensures over { AreOver sight.now.heads.now ends.new }
+    requires over { AreOver sight.now.heads.now.list.items ends.old }
+    requires is_open { IsOpenNumber (patches_of sight.now.heads.now.list.items) gate }
+    ensures close { IsTrue result ↔ StartsAbove (patches_of sight.now.heads.now.list.items) gate starts.entry }
+    ensures over { AreOver sight.now.heads.now.list.items ends.new }
     ensures crossed { (ends.new.up.crossed ≡ ends.old.up.crossed) × (ends.new.down.crossed ≡ ends.old.down.crossed) }
 {
     ends.up.walk.clear();
@@ -318,7 +321,7 @@ fn is_named(names: &[PatchNo], gate: u32) -> bool
 // Whether one of the names waits for an open gate.
 fn names_held(sight: &Sight<'_>, names: &[PatchNo]) -> bool
     requires { Sees sight.now }
-    ensures { IsTrue result ↔ ((n : ℕ) × Contains (numbers_of names.now) n × (pending_in (nodes_of sight.now.heads.now) n ≡ pending.Held)) }
+    ensures { IsTrue result ↔ ((n : ℕ) × Contains (numbers_of names.now) n × (pending_in (nodes_of sight.now.heads.now.list.items) n ≡ pending.Held)) }
 {
     for name in names {
         if is_pending(pending_at(sight.heads, name.0), Pending::Held) {
@@ -337,14 +340,14 @@ pub fn closes_cycle(
     names: &[PatchNo],
 ) -> bool
     requires sees { Sees sight.now }
-    requires over { AreOver sight.now.heads.now ends.old }
-    requires index { HasIndex sight.now.heads.now gate index }
-    requires is_open { IsOpenNumber (patches_of sight.now.heads.now) gate }
-    ensures closes { IsTrue result ↔ NamesAbove (patches_of sight.now.heads.now) gate (numbers_of names.now) }
-    ensures over { AreOver sight.now.heads.now ends.new }
+    requires over { AreOver sight.now.heads.now.list.items ends.old }
+    requires index { HasIndex sight.now.heads.now.list.items gate index }
+    requires is_open { IsOpenNumber (patches_of sight.now.heads.now.list.items) gate }
+    ensures closes { IsTrue result ↔ NamesAbove (patches_of sight.now.heads.now.list.items) gate (numbers_of names.now) }
+    ensures over { AreOver sight.now.heads.now.list.items ends.new }
     ensures crossed { (ends.new.up.crossed ≡ ends.old.up.crossed) × (ends.new.down.crossed ≡ ends.old.down.crossed) }
 {
-    if sight.heads[index].dependants.as_slice().is_empty() {
+    if sight.heads.list[index].dependants.as_slice().is_empty() {
         return is_named(names, gate);
     }
     if !names_held(sight, names) {

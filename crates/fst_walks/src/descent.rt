@@ -27,9 +27,9 @@ pub fn show_only(reached: &mut [bool], block: u32)
 /// Of what was visited, the changes of other blocks stay.
 pub fn keep_away(sight: &Sight<'_>, walk: &mut Walk, block: u32)
     requires sees { Sees sight.now }
-    requires visited { Visited sight.now.heads.now walk.old }
-    ensures visited { Visited sight.now.heads.now walk.new }
-    ensures kept { (n : ℕ) → Contains (numbers_met sight.now.heads.now walk.new) n ↔ (Contains (numbers_met sight.now.heads.now walk.old) n × PassesAt (test.LiveOff block) (patches_of sight.now.heads.now) n) }
+    requires visited { Visited sight.now.heads.now.list.items walk.old }
+    ensures visited { Visited sight.now.heads.now.list.items walk.new }
+    ensures kept { (n : ℕ) → Contains (numbers_met sight.now.heads.now.list.items walk.new) n ↔ (Contains (numbers_met sight.now.heads.now.list.items walk.old) n × PassesAt (test.LiveOff block) (patches_of sight.now.heads.now.list.items) n) }
 {
-    walk.keep(sight.heads, Test::LiveOff(block));
+    walk.keep(&sight.heads.list, Test::LiveOff(block));
 }

@@ -29,10 +29,10 @@ pub struct Looked {
 /// The index of what the walk met at that turn or later, and the other has met too.
 pub(crate) fn meets(sight: &Sight<'_>, walk: &Walk, other: &Walk, from: usize) -> Option<usize>
     requires sees { Sees sight.now }
-    requires walk { length walk.now.marks ≡ length sight.now.heads.now }
-    requires other { Visited sight.now.heads.now other.now }
-    ensures met { IfSome result (λ index. (n : ℕ) × HasIndex sight.now.heads.now n index × Contains (numbers_met sight.now.heads.now walk.now) n × Contains (numbers_met sight.now.heads.now other.now) n) }
-    ensures apart { IfNone result ((at : ℕ) → from ≤ at → at < length walk.now.met → Contains (numbers_met sight.now.heads.now other.now) (slice_index_or (numbers_met sight.now.heads.now walk.now) at 0) → ⊥) }
+    requires walk { length walk.now.marks ≡ length sight.now.heads.now.list.items }
+    requires other { Visited sight.now.heads.now.list.items other.now }
+    ensures met { IfSome result (λ index. (n : ℕ) × HasIndex sight.now.heads.now.list.items n index × Contains (numbers_met sight.now.heads.now.list.items walk.now) n × Contains (numbers_met sight.now.heads.now.list.items other.now) n) }
+    ensures apart { IfNone result ((at : ℕ) → from ≤ at → at < length walk.now.met → Contains (numbers_met sight.now.heads.now.list.items other.now) (slice_index_or (numbers_met sight.now.heads.now.list.items walk.now) at 0) → ⊥) }
 {
     for at in from..walk.len() {
         let index = walk.index_at(at);

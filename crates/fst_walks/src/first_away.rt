@@ -27,10 +27,10 @@ pub const FEW: usize = 256;
 // Whether the way down goes through the patch at the index.
 fn goes_through(sight: &Sight<'_>, index: usize, block: u32) -> bool
     requires sees { Sees sight.now }
-    requires inside { index < length sight.now.heads.now }
-    ensures { (number : ℕ) → HasIndex sight.now.heads.now number index → IsTrue result ↔ GoesThrough (patches_of sight.now.heads.now) (hard_over_of sight.now.levels.now.ranks) block number }
+    requires inside { index < length sight.now.heads.now.list.items }
+    ensures { (number : ℕ) → HasIndex sight.now.heads.now.list.items number index → IsTrue result ↔ GoesThrough (patches_of sight.now.heads.now.list.items) (hard_over_of sight.now.levels.now.ranks) block number }
 {
-    !passes(Test::LiveOff(block), &sight.heads[index])
+    !passes(Test::LiveOff(block), &sight.heads.list[index])
         && !is_under_hard(sight.levels, sight.heads, block, index)
 }
 
@@ -46,17 +46,17 @@ fn step_away(
     most: usize,
 ) -> usize
     requires sees { Sees sight.now }
-    requires visited { Visited sight.now.heads.now walk.old }
+    requires visited { Visited sight.now.heads.now.list.items walk.old }
     requires at { at < length walk.old.met }
-    ensures visited { Visited sight.now.heads.now walk.new }
-    ensures only { (n : ℕ) → Contains (numbers_met sight.now.heads.now walk.new) n → Contains (numbers_met sight.now.heads.now walk.old) n ⊎ StepsAway (patches_of sight.now.heads.now) (hard_over_of sight.now.levels.now.ranks) (level_of sight.now.levels.now.ranks) least block (slice_index_or (numbers_met sight.now.heads.now walk.old) at 0) n }
-    ensures visits { result ≤ most → Visits (StepsAway (patches_of sight.now.heads.now) (hard_over_of sight.now.levels.now.ranks) (level_of sight.now.levels.now.ranks) least block (slice_index_or (numbers_met sight.now.heads.now walk.old) at 0)) (numbers_met sight.now.heads.now walk.old) (numbers_met sight.now.heads.now walk.new) }
+    ensures visited { Visited sight.now.heads.now.list.items walk.new }
+    ensures only { (n : ℕ) → Contains (numbers_met sight.now.heads.now.list.items walk.new) n → Contains (numbers_met sight.now.heads.now.list.items walk.old) n ⊎ StepsAway (patches_of sight.now.heads.now.list.items) (hard_over_of sight.now.levels.now.ranks) (level_of sight.now.levels.now.ranks) least block (slice_index_or (numbers_met sight.now.heads.now.list.items walk.old) at 0) n }
+    ensures visits { result ≤ most → Visits (StepsAway (patches_of sight.now.heads.now.list.items) (hard_over_of sight.now.levels.now.ranks) (level_of sight.now.levels.now.ranks) least block (slice_index_or (numbers_met sight.now.heads.now.list.items walk.old) at 0)) (numbers_met sight.now.heads.now.list.items walk.old) (numbers_met sight.now.heads.now.list.items walk.new) }
 {
     let index = walk.index_at(at);
     if !goes_through(sight, index, block) {
         return 0;
     }
-    let below = sight.heads[index].dependencies.as_slice();
+    let below = sight.heads.list[index].dependencies.as_slice();
     visit_high_row(sight, walk, newest_few(below, most), least);
     below.len()
 }
@@ -65,10 +65,10 @@ fn step_away(
 // Answers at how many it looked.
 fn walk_away(sight: &Sight<'_>, walk: &mut Walk, block: u32, least: u32, most: usize) -> usize
     requires sees { Sees sight.now }
-    requires visited { Visited sight.now.heads.now walk.old }
-    ensures visited { Visited sight.now.heads.now walk.new }
-    ensures only { (n : ℕ) → Contains (numbers_met sight.now.heads.now walk.new) n → IsLedFrom (StepsAway (patches_of sight.now.heads.now) (hard_over_of sight.now.levels.now.ranks) (level_of sight.now.levels.now.ranks) least block) (numbers_met sight.now.heads.now walk.old) n }
-    ensures led { result ≤ most → (n : ℕ) → Contains (numbers_met sight.now.heads.now walk.new) n ↔ IsLedFrom (StepsAway (patches_of sight.now.heads.now) (hard_over_of sight.now.levels.now.ranks) (level_of sight.now.levels.now.ranks) least block) (numbers_met sight.now.heads.now walk.old) n }
+    requires visited { Visited sight.now.heads.now.list.items walk.old }
+    ensures visited { Visited sight.now.heads.now.list.items walk.new }
+    ensures only { (n : ℕ) → Contains (numbers_met sight.now.heads.now.list.items walk.new) n → IsLedFrom (StepsAway (patches_of sight.now.heads.now.list.items) (hard_over_of sight.now.levels.now.ranks) (level_of sight.now.levels.now.ranks) least block) (numbers_met sight.now.heads.now.list.items walk.old) n }
+    ensures led { result ≤ most → (n : ℕ) → Contains (numbers_met sight.now.heads.now.list.items walk.new) n ↔ IsLedFrom (StepsAway (patches_of sight.now.heads.now.list.items) (hard_over_of sight.now.levels.now.ranks) (level_of sight.now.levels.now.ranks) least block) (numbers_met sight.now.heads.now.list.items walk.old) n }
 {
     let mut at = 0;
     let mut looked: usize = 0;
@@ -94,10 +94,10 @@ pub fn visit_first_away(
     most: usize,
 ) -> usize
     requires sees { Sees sight.now }
-    requires long { length walk.old.marks ≡ length sight.now.heads.now }
-    ensures visited { Visited sight.now.heads.now walk.new }
-    ensures only { (n : ℕ) → Contains (numbers_met sight.now.heads.now walk.new) n → IsFirstAway (patches_of sight.now.heads.now) (hard_over_of sight.now.levels.now.ranks) (level_of sight.now.levels.now.ranks) least block row.now n }
-    ensures all { result ≤ most → (n : ℕ) → IsFirstAway (patches_of sight.now.heads.now) (hard_over_of sight.now.levels.now.ranks) (level_of sight.now.levels.now.ranks) least block row.now n → Contains (numbers_met sight.now.heads.now walk.new) n }
+    requires long { length walk.old.marks ≡ length sight.now.heads.now.list.items }
+    ensures visited { Visited sight.now.heads.now.list.items walk.new }
+    ensures only { (n : ℕ) → Contains (numbers_met sight.now.heads.now.list.items walk.new) n → IsFirstAway (patches_of sight.now.heads.now.list.items) (hard_over_of sight.now.levels.now.ranks) (level_of sight.now.levels.now.ranks) least block row.now n }
+    ensures all { result ≤ most → (n : ℕ) → IsFirstAway (patches_of sight.now.heads.now.list.items) (hard_over_of sight.now.levels.now.ranks) (level_of sight.now.levels.now.ranks) least block row.now n → Contains (numbers_met sight.now.heads.now.list.items walk.new) n }
 {
     walk.clear();
     visit_high_row(sight, walk, row, least);

@@ -41,10 +41,10 @@ struct Step {
 // the one that is about to be sealed the longest.
 fn step_to(sight: &Sight<'_>, number: u32, gate: u32) -> Option<Step>
     requires sees { Sees sight.now }
-    ensures { IfSome result (λ s. HasIndex sight.now.heads.now number s.index) }
+    ensures { IfSome result (λ s. HasIndex sight.now.heads.now.list.items number s.index) }
 {
     let index = sight.levels.find(sight.heads, number)?;
-    let head = &sight.heads[index];
+    let head = &sight.heads.list[index];
     if !is_pending(head.pending, Pending::Held) {
         return None;
     }
@@ -77,7 +77,7 @@ fn shorter(one: Option<Step>, other: Option<Step>) -> Option<Step>
 // The shortest step to one of the newest of the row.
 fn shortest(sight: &Sight<'_>, row: &[u32], gate: u32) -> Option<Step>
     requires sees { Sees sight.now }
-    ensures { IfSome result (λ s. (q : ℕ) × Contains row.now q × HasIndex sight.now.heads.now q s.index) }
+    ensures { IfSome result (λ s. (q : ℕ) × Contains row.now q × HasIndex sight.now.heads.now.list.items q s.index) }
 {
     let mut best = None;
     for number in newest_few(row, WIDTH) {
@@ -89,10 +89,10 @@ fn shortest(sight: &Sight<'_>, row: &[u32], gate: u32) -> Option<Step>
 // The step on from the patch at the index: to what it directly depends on, or to its ancestor further down.
 fn step_on(sight: &Sight<'_>, index: usize, gate: u32) -> Option<Step>
     requires sees { Sees sight.now }
-    requires index { index < length sight.now.heads.now }
-    ensures { IfSome result (λ s. (q : ℕ) × HasIndex sight.now.heads.now q s.index × ((n : ℕ) → HasIndex sight.now.heads.now n index → DependsOn (patches_of sight.now.heads.now) n q)) }
+    requires index { index < length sight.now.heads.now.list.items }
+    ensures { IfSome result (λ s. (q : ℕ) × HasIndex sight.now.heads.now.list.items q s.index × ((n : ℕ) → HasIndex sight.now.heads.now.list.items n index → DependsOn (patches_of sight.now.heads.now.list.items) n q)) }
 {
-    let head = &sight.heads[index];
+    let head = &sight.heads.list[index];
     let down = shortest(sight, head.dependencies.as_slice(), gate);
     let far = sight.levels.rank_of(sight.heads, head.number).ancestry.jump;
     shorter(down, step_to(sight, far, gate))
@@ -102,14 +102,14 @@ fn step_on(sight: &Sight<'_>, index: usize, gate: u32) -> Option<Step>
 /// ways may.
 pub fn leads_to_gate(sight: &Sight<'_>, row: &[u32], gate: u32) -> bool
     requires sees { Sees sight.now }
-    ensures { IsTrue result → HasUnder (patches_of sight.now.heads.now) row.now (IsOpenBut (patches_of sight.now.heads.now) (Some gate)) }
+    ensures { IsTrue result → HasUnder (patches_of sight.now.heads.now.list.items) row.now (IsOpenBut (patches_of sight.now.heads.now.list.items) (Some gate)) }
 {
     let mut next = shortest(sight, row, gate);
     for _ in 0..STEPS {
         let Some(step) = next else {
             return false;
         };
-        if is_other_gate(&sight.heads[step.index], gate) {
+        if is_other_gate(&sight.heads.list[step.index], gate) {
             return true;
         }
         next = step_on(sight, step.index, gate);

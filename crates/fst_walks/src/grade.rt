@@ -29,12 +29,12 @@ use fst_levels::sight::Sight;
 // matter.
 fn grade_by_ways(sight: &Sight<'_>, ends: &mut Ends, block: u32, row: &[u32]) -> Graded
     requires sees { Sees sight.now }
-    requires up { IsOver sight.now.heads.now (length sight.now.lists.now) ends.old.up }
-    requires down { IsOver sight.now.heads.now (length sight.now.lists.now) ends.old.down }
+    requires up { IsOver sight.now.heads.now.list.items (length sight.now.lists.now) ends.old.up }
+    requires down { IsOver sight.now.heads.now.list.items (length sight.now.lists.now) ends.old.down }
     requires block { block < length sight.now.lists.now }
-    ensures told { IsTold (patches_of sight.now.heads.now) block row.now (LeadsNowhere (patches_of sight.now.heads.now) block row.now) result }
-    ensures up { IsOver sight.now.heads.now (length sight.now.lists.now) ends.new.up }
-    ensures down { IsOver sight.now.heads.now (length sight.now.lists.now) ends.new.down }
+    ensures told { IsTold (patches_of sight.now.heads.now.list.items) block row.now (LeadsNowhere (patches_of sight.now.heads.now.list.items) block row.now) result }
+    ensures up { IsOver sight.now.heads.now.list.items (length sight.now.lists.now) ends.new.up }
+    ensures down { IsOver sight.now.heads.now.list.items (length sight.now.lists.now) ends.new.down }
 {
     if is_clean(sight, block) {
         return hard();
@@ -70,12 +70,12 @@ pub fn grade_of(
     but: Option<u32>,
 ) -> Graded
     requires sees { Sees sight.now }
-    requires up { IsOver sight.now.heads.now (length sight.now.lists.now) ends.old.up }
-    requires down { IsOver sight.now.heads.now (length sight.now.lists.now) ends.old.down }
+    requires up { IsOver sight.now.heads.now.list.items (length sight.now.lists.now) ends.old.up }
+    requires down { IsOver sight.now.heads.now.list.items (length sight.now.lists.now) ends.old.down }
     requires block { block < length sight.now.lists.now }
-    ensures told { IsTold (patches_of sight.now.heads.now) block row.now (MayBeHard (patches_of sight.now.heads.now) but block row.now) result }
-    ensures up { IsOver sight.now.heads.now (length sight.now.lists.now) ends.new.up }
-    ensures down { IsOver sight.now.heads.now (length sight.now.lists.now) ends.new.down }
+    ensures told { IsTold (patches_of sight.now.heads.now.list.items) block row.now (MayBeHard (patches_of sight.now.heads.now.list.items) but block row.now) result }
+    ensures up { IsOver sight.now.heads.now.list.items (length sight.now.lists.now) ends.new.up }
+    ensures down { IsOver sight.now.heads.now.list.items (length sight.now.lists.now) ends.new.down }
 {
     if is_blocked(sight, &mut ends.up.walk, row, but) {
         return soft(None);

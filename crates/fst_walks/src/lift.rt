@@ -34,10 +34,10 @@ fn climb_low(
 ) -> bool
     requires sees { Sees sight.now }
     requires crossed { length crossed.old ≡ length sight.now.lists.now }
-    requires visited { Visited sight.now.heads.now walk.old }
-    ensures visited { Visited sight.now.heads.now walk.new }
+    requires visited { Visited sight.now.heads.now.list.items walk.old }
+    ensures visited { Visited sight.now.heads.now.list.items walk.new }
     ensures room { walk.new.room ≡ walk.old.room }
-    ensures met { IsTrue result → (n : ℕ) → Contains (numbers_met sight.now.heads.now walk.new) n ↔ IsLedFrom (StepsLow (patches_of sight.now.heads.now) (level_of sight.now.levels.now.ranks) most crossed.old) (numbers_met sight.now.heads.now walk.old) n }
+    ensures met { IsTrue result → (n : ℕ) → Contains (numbers_met sight.now.heads.now.list.items walk.new) n ↔ IsLedFrom (StepsLow (patches_of sight.now.heads.now.list.items) (level_of sight.now.levels.now.ranks) most crossed.old) (numbers_met sight.now.heads.now.list.items walk.old) n }
     ensures all { limit ≡ 18446744073709551615 → result ≡ true }
 {
     let mut at = 0;
@@ -62,12 +62,12 @@ fn meet_low(
     limit: usize,
 ) -> bool
     requires sees { Sees sight.now }
-    requires long { length walk.old.marks ≡ length sight.now.heads.now }
+    requires long { length walk.old.marks ≡ length sight.now.heads.now.list.items }
     requires crossed { length crossed.old ≡ length sight.now.lists.now }
     requires block { block < length sight.now.lists.now }
-    ensures visited { Visited sight.now.heads.now walk.new }
+    ensures visited { Visited sight.now.heads.now.list.items walk.new }
     ensures room { walk.new.room ≡ walk.old.room }
-    ensures meets { IsTrue result → MeetsLow (patches_of sight.now.heads.now) (level_of sight.now.levels.now.ranks) block most (numbers_met sight.now.heads.now walk.new) }
+    ensures meets { IsTrue result → MeetsLow (patches_of sight.now.heads.now.list.items) (level_of sight.now.levels.now.ranks) block most (numbers_met sight.now.heads.now.list.items walk.new) }
     ensures all { limit ≡ 18446744073709551615 → result ≡ true }
 {
     walk.clear();
@@ -101,11 +101,11 @@ pub fn rise_of(
     told: Graded,
 ) -> Rise
     requires sees { Sees sight.now }
-    requires long { length walk.old.marks ≡ length sight.now.heads.now }
+    requires long { length walk.old.marks ≡ length sight.now.heads.now.list.items }
     requires crossed { length crossed.old ≡ length sight.now.lists.now }
     requires block { block < length sight.now.lists.now }
-    ensures rise { IsRise (patches_of sight.now.heads.now) sight.now.levels.now block row.now told.grade (numbers_met sight.now.heads.now walk.new) result }
-    ensures long { length walk.new.marks ≡ length sight.now.heads.now }
+    ensures rise { IsRise (patches_of sight.now.heads.now.list.items) sight.now.levels.now block row.now told.grade (numbers_met sight.now.heads.now.list.items walk.new) result }
+    ensures long { length walk.new.marks ≡ length sight.now.heads.now.list.items }
     ensures room { walk.new.room ≡ walk.old.room }
 {
     let high = sight.levels.greatest(sight.heads, row);

@@ -20,14 +20,14 @@ use fst_levels::walk::Walk;
 // Whether an open gate besides this one is met on the way down from what was visited. It ends at the first.
 fn search_other(sight: &Sight<'_>, walk: &mut Walk, gate: u32) -> bool
     requires sees { Sees sight.now }
-    requires visited { Visited sight.now.heads.now walk.old }
-    ensures visited { Visited sight.now.heads.now walk.new }
-    ensures met { IsTrue result ↔ ((n : ℕ) × IsLedFrom (IsNextHeld (patches_of sight.now.heads.now) (pending_in (nodes_of sight.now.heads.now))) (numbers_met sight.now.heads.now walk.old) n × IsOpenBut (patches_of sight.now.heads.now) (Some gate) n) }
+    requires visited { Visited sight.now.heads.now.list.items walk.old }
+    ensures visited { Visited sight.now.heads.now.list.items walk.new }
+    ensures met { IsTrue result ↔ ((n : ℕ) × IsLedFrom (IsNextHeld (patches_of sight.now.heads.now.list.items) (pending_in (nodes_of sight.now.heads.now.list.items))) (numbers_met sight.now.heads.now.list.items walk.old) n × IsOpenBut (patches_of sight.now.heads.now.list.items) (Some gate) n) }
 {
     let mut at = 0;
     while at < walk.len() {
         let index = walk.index_at(at);
-        let head = &sight.heads[index];
+        let head = &sight.heads.list[index];
         if is_other_gate(head, gate) {
             return true;
         }
@@ -40,9 +40,9 @@ fn search_other(sight: &Sight<'_>, walk: &mut Walk, gate: u32) -> bool
 // Whether an open gate besides this one is in the row or below it.
 fn waits_for_another(sight: &Sight<'_>, walk: &mut Walk, row: &[u32], gate: u32) -> bool
     requires sees { Sees sight.now }
-    requires long { length walk.old.marks ≡ length sight.now.heads.now }
-    ensures waits { IsTrue result ↔ HasUnder (patches_of sight.now.heads.now) row.now (IsOpenBut (patches_of sight.now.heads.now) (Some gate)) }
-    ensures long { length walk.new.marks ≡ length sight.now.heads.now }
+    requires long { length walk.old.marks ≡ length sight.now.heads.now.list.items }
+    ensures waits { IsTrue result ↔ HasUnder (patches_of sight.now.heads.now.list.items) row.now (IsOpenBut (patches_of sight.now.heads.now.list.items) (Some gate)) }
+    ensures long { length walk.new.marks ≡ length sight.now.heads.now.list.items }
 {
     walk.clear();
     visit_row(sight, walk, row);
@@ -53,9 +53,9 @@ fn waits_for_another(sight: &Sight<'_>, walk: &mut Walk, row: &[u32], gate: u32)
 /// with that row is soft.
 pub fn is_blocked(sight: &Sight<'_>, walk: &mut Walk, row: &[u32], but: Option<u32>) -> bool
     requires sees { Sees sight.now }
-    requires long { length walk.old.marks ≡ length sight.now.heads.now }
-    ensures blocked { IsTrue result ↔ HasUnder (patches_of sight.now.heads.now) row.now (IsOpenBut (patches_of sight.now.heads.now) but) }
-    ensures long { length walk.new.marks ≡ length sight.now.heads.now }
+    requires long { length walk.old.marks ≡ length sight.now.heads.now.list.items }
+    ensures blocked { IsTrue result ↔ HasUnder (patches_of sight.now.heads.now.list.items) row.now (IsOpenBut (patches_of sight.now.heads.now.list.items) but) }
+    ensures long { length walk.new.marks ≡ length sight.now.heads.now.list.items }
 {
     if !waits_for_gate(sight, row) {
         return false;

@@ -21,10 +21,10 @@ use fst_types::Span;
 // Whether something may depend on the patch with the number.
 fn has_dependants(sight: &Sight<'_>, number: u32) -> bool
     requires sees { Sees sight.now }
-    ensures { (n : ℕ) → DependsOn (patches_of sight.now.heads.now) n number → IsTrue result }
+    ensures { (n : ℕ) → DependsOn (patches_of sight.now.heads.now.list.items) n number → IsTrue result }
 {
     match sight.levels.find(sight.heads, number) {
-        Some(index) => !sight.heads[index].dependants.as_slice().is_empty(),
+        Some(index) => !sight.heads.list[index].dependants.as_slice().is_empty(),
         None => true,
     }
 }
@@ -34,8 +34,8 @@ fn has_dependants(sight: &Sight<'_>, number: u32) -> bool
 fn overlapped<'a>(sight: &Sight<'a>, block: u32, span: Span) -> Starts<'a>
     requires sees { Sees sight.now }
     requires block { block < length sight.now.lists.now }
-    ensures only { (n : ℕ) → IsStart (patches_of sight.now.heads.now) result n → IsTouched (patches_of sight.now.heads.now) block span.at span.len n }
-    ensures above { (n : ℕ) → IsTouched (patches_of sight.now.heads.now) block span.at span.len n → (m : ℕ) × IsStart (patches_of sight.now.heads.now) result m × ((m ≡ n) ⊎ DependsOn (patches_of sight.now.heads.now) m n) }
+    ensures only { (n : ℕ) → IsStart (patches_of sight.now.heads.now.list.items) result n → IsTouched (patches_of sight.now.heads.now.list.items) block span.at span.len n }
+    ensures above { (n : ℕ) → IsTouched (patches_of sight.now.heads.now.list.items) block span.at span.len n → (m : ℕ) × IsStart (patches_of sight.now.heads.now.list.items) result m × ((m ≡ n) ⊎ DependsOn (patches_of sight.now.heads.now.list.items) m n) }
 {
     let cover = &sight.covers[block as usize];
     if span.len == 0 || cover.has_untold() {
@@ -55,11 +55,11 @@ pub fn overlap_reaches(
     span: Span,
 ) -> bool
     requires sees { Sees sight.now }
-    requires over { AreOver sight.now.heads.now ends.old }
+    requires over { AreOver sight.now.heads.now.list.items ends.old }
     requires block { block < length sight.now.lists.now }
-    requires is_open { IsOpenNumber (patches_of sight.now.heads.now) gate }
-    ensures reaches { IsTrue result ↔ TouchedReaches (patches_of sight.now.heads.now) gate block span.at span.len }
-    ensures over { AreOver sight.now.heads.now ends.new }
+    requires is_open { IsOpenNumber (patches_of sight.now.heads.now.list.items) gate }
+    ensures reaches { IsTrue result ↔ TouchedReaches (patches_of sight.now.heads.now.list.items) gate block span.at span.len }
+    ensures over { AreOver sight.now.heads.now.list.items ends.new }
     ensures crossed { (ends.new.up.crossed ≡ ends.old.up.crossed) × (ends.new.down.crossed ≡ ends.old.down.crossed) }
 {
     if !has_dependants(sight, gate) {

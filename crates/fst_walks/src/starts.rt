@@ -37,9 +37,9 @@ pub enum Starts<'a> {
 // Visits those of the names that wait for an open gate.
 fn visit_names(sight: &Sight<'_>, walk: &mut Walk, names: &[PatchNo])
     requires sees { Sees sight.now }
-    requires visited { Visited sight.now.heads.now walk.old }
-    ensures visited { Visited sight.now.heads.now walk.new }
-    ensures visits { Visits (λ n. Contains (numbers_of names.now) n × (pending_in (nodes_of sight.now.heads.now) n ≡ pending.Held)) (numbers_met sight.now.heads.now walk.old) (numbers_met sight.now.heads.now walk.new) }
+    requires visited { Visited sight.now.heads.now.list.items walk.old }
+    ensures visited { Visited sight.now.heads.now.list.items walk.new }
+    ensures visits { Visits (λ n. Contains (numbers_of names.now) n × (pending_in (nodes_of sight.now.heads.now.list.items) n ≡ pending.Held)) (numbers_met sight.now.heads.now.list.items walk.old) (numbers_met sight.now.heads.now.list.items walk.new) }
 {
     for name in names {
         visit_held(sight, walk, name.0);
@@ -49,9 +49,9 @@ fn visit_names(sight: &Sight<'_>, walk: &mut Walk, names: &[PatchNo])
 // Visits the changes of the block that the runs tell, share a byte with the span and wait for an open gate.
 fn visit_newest(sight: &Sight<'_>, walk: &mut Walk, runs: &[Run], block: u32, span: Span)
     requires sees { Sees sight.now }
-    requires visited { Visited sight.now.heads.now walk.old }
-    ensures visited { Visited sight.now.heads.now walk.new }
-    ensures visits { Visits (λ n. Contains (numbers_told runs.now) n × IsTouched (patches_of sight.now.heads.now) block span.at span.len n × (pending_in (nodes_of sight.now.heads.now) n ≡ pending.Held)) (numbers_met sight.now.heads.now walk.old) (numbers_met sight.now.heads.now walk.new) }
+    requires visited { Visited sight.now.heads.now.list.items walk.old }
+    ensures visited { Visited sight.now.heads.now.list.items walk.new }
+    ensures visits { Visits (λ n. Contains (numbers_told runs.now) n × IsTouched (patches_of sight.now.heads.now.list.items) block span.at span.len n × (pending_in (nodes_of sight.now.heads.now.list.items) n ≡ pending.Held)) (numbers_met sight.now.heads.now.list.items walk.old) (numbers_met sight.now.heads.now.list.items walk.new) }
 {
     for run in runs {
         if is_touched(sight.heads, run.number, block, span) {
@@ -63,9 +63,9 @@ fn visit_newest(sight: &Sight<'_>, walk: &mut Walk, runs: &[Run], block: u32, sp
 // Visits the listed changes that share a byte with the span and wait for an open gate.
 fn visit_overlapped(sight: &Sight<'_>, walk: &mut Walk, list: &[Listed], span: Span)
     requires sees { Sees sight.now }
-    requires visited { Visited sight.now.heads.now walk.old }
-    ensures visited { Visited sight.now.heads.now walk.new }
-    ensures visits { Visits (λ n. IsSharing span.at span.len (entries_of list.now) n × (pending_in (nodes_of sight.now.heads.now) n ≡ pending.Held)) (numbers_met sight.now.heads.now walk.old) (numbers_met sight.now.heads.now walk.new) }
+    requires visited { Visited sight.now.heads.now.list.items walk.old }
+    ensures visited { Visited sight.now.heads.now.list.items walk.new }
+    ensures visits { Visits (λ n. IsSharing span.at span.len (entries_of list.now) n × (pending_in (nodes_of sight.now.heads.now.list.items) n ≡ pending.Held)) (numbers_met sight.now.heads.now.list.items walk.old) (numbers_met sight.now.heads.now.list.items walk.new) }
 {
     for listed in list {
         if shares(listed.span, span) {
@@ -77,9 +77,9 @@ fn visit_overlapped(sight: &Sight<'_>, walk: &mut Walk, list: &[Listed], span: S
 /// Visits those of the starts that wait for an open gate.
 pub fn visit_starts(sight: &Sight<'_>, walk: &mut Walk, starts: Starts<'_>)
     requires sees { Sees sight.now }
-    requires visited { Visited sight.now.heads.now walk.old }
-    ensures visited { Visited sight.now.heads.now walk.new }
-    ensures visits { Visits (λ n. IsStart (patches_of sight.now.heads.now) starts.entry n × (pending_in (nodes_of sight.now.heads.now) n ≡ pending.Held)) (numbers_met sight.now.heads.now walk.old) (numbers_met sight.now.heads.now walk.new) }
+    requires visited { Visited sight.now.heads.now.list.items walk.old }
+    ensures visited { Visited sight.now.heads.now.list.items walk.new }
+    ensures visits { Visits (λ n. IsStart (patches_of sight.now.heads.now.list.items) starts.entry n × (pending_in (nodes_of sight.now.heads.now.list.items) n ≡ pending.Held)) (numbers_met sight.now.heads.now.list.items walk.old) (numbers_met sight.now.heads.now.list.items walk.new) }
 {
     match starts {
         Starts::Names(names) => visit_names(sight, walk, names),

@@ -28,9 +28,9 @@ const LOOKS: usize = 65_536;
 // The index of the patch with the number, if the walk has met it.
 fn met_index(sight: &Sight<'_>, up: &Walk, number: u32) -> Option<usize>
     requires sees { Sees sight.now }
-    requires up { Visited sight.now.heads.now up.now }
-    ensures index { IfSome result (HasIndex sight.now.heads.now number) }
-    ensures live { IfSome result (λ index. IsLiveNumber (patches_of sight.now.heads.now) number) }
+    requires up { Visited sight.now.heads.now.list.items up.now }
+    ensures index { IfSome result (HasIndex sight.now.heads.now.list.items number) }
+    ensures live { IfSome result (λ index. IsLiveNumber (patches_of sight.now.heads.now.list.items) number) }
 {
     let index = sight.levels.find(sight.heads, number)?;
     if up.has_met(index) { Some(index) } else { None }
@@ -39,9 +39,9 @@ fn met_index(sight: &Sight<'_>, up: &Walk, number: u32) -> Option<usize>
 // The index of what the walk has met and the block needs, the newest first, of so many at most.
 fn met_need(sight: &Sight<'_>, up: &Walk, block: u32, most: usize) -> Option<usize>
     requires sees { Sees sight.now }
-    requires up { Visited sight.now.heads.now up.now }
+    requires up { Visited sight.now.heads.now.list.items up.now }
     requires block { block < length sight.now.lists.now }
-    ensures { IfSome result (λ index. (q : ℕ) × HasIndex sight.now.heads.now q index × IsNeed (patches_of sight.now.heads.now) (needs_of sight.now.needs.now.lists) block q) }
+    ensures { IfSome result (λ index. (q : ℕ) × HasIndex sight.now.heads.now.list.items q index × IsNeed (patches_of sight.now.heads.now.list.items) (needs_of sight.now.needs.now.lists) block q) }
 {
     let needs = sight.needs.of(block);
     let few = &needs[needs.len().saturating_sub(most)..];
@@ -58,11 +58,11 @@ fn met_need(sight: &Sight<'_>, up: &Walk, block: u32, most: usize) -> Option<usi
 // block needs, if that is another than `block`. It looks at so many of either at most.
 fn step(sight: &Sight<'_>, up: &Walk, index: usize, block: u32, most: usize) -> Option<usize>
     requires sees { Sees sight.now }
-    requires up { Visited sight.now.heads.now up.now }
-    requires index { index < length sight.now.heads.now }
-    ensures { IfSome result (λ next. (q : ℕ) × HasIndex sight.now.heads.now q next × ((n : ℕ) → HasIndex sight.now.heads.now n index → IsLiveNumber (patches_of sight.now.heads.now) n → StepsTo (patches_of sight.now.heads.now) (needs_of sight.now.needs.now.lists) block n q)) }
+    requires up { Visited sight.now.heads.now.list.items up.now }
+    requires index { index < length sight.now.heads.now.list.items }
+    ensures { IfSome result (λ next. (q : ℕ) × HasIndex sight.now.heads.now.list.items q next × ((n : ℕ) → HasIndex sight.now.heads.now.list.items n index → IsLiveNumber (patches_of sight.now.heads.now.list.items) n → StepsTo (patches_of sight.now.heads.now.list.items) (needs_of sight.now.needs.now.lists) block n q)) }
 {
-    let head = &sight.heads[index];
+    let head = &sight.heads.list[index];
     for number in newest_few(head.dependencies.as_slice(), most).iter().rev() {
         let next = met_index(sight, up, *number);
         if next.is_some() {
@@ -86,15 +86,15 @@ fn step(sight: &Sight<'_>, up: &Walk, index: usize, block: u32, most: usize) -> 
 /// block has met. None where that is far, or what leads there is old.
 pub fn trace(sight: &Sight<'_>, up: &Walk, index: usize, block: u32) -> Option<u32>
     requires sees { Sees sight.now }
-    requires up { Visited sight.now.heads.now up.now }
-    requires index { (n : ℕ) × HasIndex sight.now.heads.now n index × IsLiveNumber (patches_of sight.now.heads.now) n }
-    ensures change { IfSome result (PassesAt (test.LiveOn block) (patches_of sight.now.heads.now)) }
-    ensures path { IfSome result (λ end. (n : ℕ) → HasIndex sight.now.heads.now n index → (n ≡ end) ⊎ Closure (StepsTo (patches_of sight.now.heads.now) (needs_of sight.now.needs.now.lists) block) n end) }
+    requires up { Visited sight.now.heads.now.list.items up.now }
+    requires index { (n : ℕ) × HasIndex sight.now.heads.now.list.items n index × IsLiveNumber (patches_of sight.now.heads.now.list.items) n }
+    ensures change { IfSome result (PassesAt (test.LiveOn block) (patches_of sight.now.heads.now.list.items)) }
+    ensures path { IfSome result (λ end. (n : ℕ) → HasIndex sight.now.heads.now.list.items n index → (n ≡ end) ⊎ Closure (StepsTo (patches_of sight.now.heads.now.list.items) (needs_of sight.now.needs.now.lists) block) n end) }
 {
     let mut at = index;
     let mut left = LOOKS;
     for _ in 0..STEPS {
-        let head = &sight.heads[at];
+        let head = &sight.heads.list[at];
         if passes(Test::LiveOn(block), head) {
             return Some(head.number);
         }

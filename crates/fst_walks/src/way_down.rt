@@ -32,14 +32,14 @@ const NEWEST: usize = 8;
 // only where that is high enough and was not visited: most are too low or were, and heads are far larger than ranks.
 fn visit_high(sight: &Sight<'_>, walk: &mut Walk, number: u32, least: u32)
     requires sees { Sees sight.now }
-    requires visited { Visited sight.now.heads.now walk.old }
-    ensures visited { Visited sight.now.heads.now walk.new }
-    ensures visits { Visits (λ n. (n ≡ number) × IsHigh (patches_of sight.now.heads.now) (level_of sight.now.levels.now.ranks) least n) (numbers_met sight.now.heads.now walk.old) (numbers_met sight.now.heads.now walk.new) }
+    requires visited { Visited sight.now.heads.now.list.items walk.old }
+    ensures visited { Visited sight.now.heads.now.list.items walk.new }
+    ensures visits { Visits (λ n. (n ≡ number) × IsHigh (patches_of sight.now.heads.now.list.items) (level_of sight.now.levels.now.ranks) least n) (numbers_met sight.now.heads.now.list.items walk.old) (numbers_met sight.now.heads.now.list.items walk.new) }
 {
     if let Some(index) = sight.levels.find(sight.heads, number) {
         if sight.levels.level(index) >= least {
             if !walk.has_met(index) {
-                if is_live(sight.heads[index].place) {
+                if is_live(sight.heads.list[index].place) {
                     walk.meet(index);
                 }
             }
@@ -50,9 +50,9 @@ fn visit_high(sight: &Sight<'_>, walk: &mut Walk, number: u32, least: u32)
 /// Visits what is not on disk of the row, as far as it is no lower than `least`.
 pub fn visit_high_row(sight: &Sight<'_>, walk: &mut Walk, row: &[u32], least: u32)
     requires sees { Sees sight.now }
-    requires visited { Visited sight.now.heads.now walk.old }
-    ensures visited { Visited sight.now.heads.now walk.new }
-    ensures visits { Visits (λ n. Contains row.now n × IsHigh (patches_of sight.now.heads.now) (level_of sight.now.levels.now.ranks) least n) (numbers_met sight.now.heads.now walk.old) (numbers_met sight.now.heads.now walk.new) }
+    requires visited { Visited sight.now.heads.now.list.items walk.old }
+    ensures visited { Visited sight.now.heads.now.list.items walk.new }
+    ensures visits { Visits (λ n. Contains row.now n × IsHigh (patches_of sight.now.heads.now.list.items) (level_of sight.now.levels.now.ranks) least n) (numbers_met sight.now.heads.now.list.items walk.old) (numbers_met sight.now.heads.now.list.items walk.new) }
 {
     for number in row {
         visit_high(sight, walk, *number, least);
@@ -62,11 +62,11 @@ pub fn visit_high_row(sight: &Sight<'_>, walk: &mut Walk, row: &[u32], least: u3
 // Whether the patch with the number, which stands at the index, is a hard change in memory.
 fn is_any_hard(sight: &Sight<'_>, index: usize, number: u32) -> bool
     requires sees { Sees sight.now }
-    requires index { HasIndex sight.now.heads.now number index }
-    ensures { IsTrue result ↔ ((c : ℕ) × IsHardNumber (patches_of sight.now.heads.now) c number) }
+    requires index { HasIndex sight.now.heads.now.list.items number index }
+    ensures { IsTrue result ↔ ((c : ℕ) × IsHardNumber (patches_of sight.now.heads.now.list.items) c number) }
 {
     let _ = number;
-    let head = &sight.heads[index];
+    let head = &sight.heads.list[index];
     if let Kind::Change(_, block, _) = head.kind {
         return is_hard_in(head, block as u32);
     }
@@ -83,15 +83,15 @@ fn visit_high_below(
     least: u32,
 ) -> usize
     requires sees { Sees sight.now }
-    requires visited { Visited sight.now.heads.now walk.old }
-    requires index { HasIndex sight.now.heads.now number index }
-    ensures visited { Visited sight.now.heads.now walk.new }
-    ensures visits { Visits (StepsBelow (patches_of sight.now.heads.now) (level_of sight.now.levels.now.ranks) least number) (numbers_met sight.now.heads.now walk.old) (numbers_met sight.now.heads.now walk.new) }
+    requires visited { Visited sight.now.heads.now.list.items walk.old }
+    requires index { HasIndex sight.now.heads.now.list.items number index }
+    ensures visited { Visited sight.now.heads.now.list.items walk.new }
+    ensures visits { Visits (StepsBelow (patches_of sight.now.heads.now.list.items) (level_of sight.now.levels.now.ranks) least number) (numbers_met sight.now.heads.now.list.items walk.old) (numbers_met sight.now.heads.now.list.items walk.new) }
 {
     if is_any_hard(sight, index, number) {
         return 0;
     }
-    let below = sight.heads[index].dependencies.as_slice();
+    let below = sight.heads.list[index].dependencies.as_slice();
     visit_high_row(sight, walk, below, least);
     below.len()
 }
@@ -99,10 +99,10 @@ fn visit_high_below(
 // Visits what the block needs, as far as it is no lower than `least`. Answers how many patches it looked at.
 fn visit_high_needs(sight: &Sight<'_>, walk: &mut Walk, block: u32, least: u32) -> usize
     requires sees { Sees sight.now }
-    requires visited { Visited sight.now.heads.now walk.old }
+    requires visited { Visited sight.now.heads.now.list.items walk.old }
     requires block { block < length sight.now.lists.now }
-    ensures visited { Visited sight.now.heads.now walk.new }
-    ensures visits { Visits (IsHighNeed (patches_of sight.now.heads.now) (level_of sight.now.levels.now.ranks) least (needs_of sight.now.needs.now.lists) block) (numbers_met sight.now.heads.now walk.old) (numbers_met sight.now.heads.now walk.new) }
+    ensures visited { Visited sight.now.heads.now.list.items walk.new }
+    ensures visits { Visits (IsHighNeed (patches_of sight.now.heads.now.list.items) (level_of sight.now.levels.now.ranks) least (needs_of sight.now.needs.now.lists) block) (numbers_met sight.now.heads.now.list.items walk.old) (numbers_met sight.now.heads.now.list.items walk.new) }
 {
     // None is higher than the floor of the block.
     if sight.levels.floor(block) < least {
@@ -127,14 +127,14 @@ fn cross(
 ) -> usize
     requires sees { Sees sight.now }
     requires crossed { length crossed.old ≡ length sight.now.lists.now }
-    requires visited { Visited sight.now.heads.now walk.old }
-    requires index { HasIndex sight.now.heads.now number index }
-    requires live { IsLiveNumber (patches_of sight.now.heads.now) number }
-    ensures visited { Visited sight.now.heads.now walk.new }
-    ensures visits { Visits (λ q. CrossesDown (patches_of sight.now.heads.now) (needs_of sight.now.needs.now.lists) crossed.old number q × (least ≤ level_of sight.now.levels.now.ranks q)) (numbers_met sight.now.heads.now walk.old) (numbers_met sight.now.heads.now walk.new) }
-    ensures crossed { ShowsBlockUnder (patches_of sight.now.heads.now) number crossed.old crossed.new }
+    requires visited { Visited sight.now.heads.now.list.items walk.old }
+    requires index { HasIndex sight.now.heads.now.list.items number index }
+    requires live { IsLiveNumber (patches_of sight.now.heads.now.list.items) number }
+    ensures visited { Visited sight.now.heads.now.list.items walk.new }
+    ensures visits { Visits (λ q. CrossesDown (patches_of sight.now.heads.now.list.items) (needs_of sight.now.needs.now.lists) crossed.old number q × (least ≤ level_of sight.now.levels.now.ranks q)) (numbers_met sight.now.heads.now.list.items walk.old) (numbers_met sight.now.heads.now.list.items walk.new) }
+    ensures crossed { ShowsBlockUnder (patches_of sight.now.heads.now.list.items) number crossed.old crossed.new }
 {
-    if let Kind::Change(_, block, _) = sight.heads[index].kind {
+    if let Kind::Change(_, block, _) = sight.heads.list[index].kind {
         let block = block as u32;
         if !crossed[block as usize] {
             crossed[block as usize] = true;
@@ -147,7 +147,7 @@ fn cross(
 // Whether the patch with the number is a change of the block that is not on disk, and no lower than `least`.
 fn is_high_change(sight: &Sight<'_>, number: u32, least: u32, on: u32) -> bool
     requires sees { Sees sight.now }
-    ensures { IsTrue result → PassesAt (test.LiveOn on) (patches_of sight.now.heads.now) number × (least ≤ level_of sight.now.levels.now.ranks number) }
+    ensures { IsTrue result → PassesAt (test.LiveOn on) (patches_of sight.now.heads.now.list.items) number × (least ≤ level_of sight.now.levels.now.ranks number) }
 {
     passes_at(sight, Test::LiveOn(on), number) && sight.levels.of(sight.heads, number) >= least
 }
@@ -164,11 +164,11 @@ fn change_across(
 ) -> Option<u32>
     requires sees { Sees sight.now }
     requires crossed { length crossed.now ≡ length sight.now.lists.now }
-    requires visited { Visited sight.now.heads.now walk.now }
+    requires visited { Visited sight.now.heads.now.list.items walk.now }
     requires at { at < length walk.now.met }
-    ensures { IfSome result (λ n. PassesAt (test.LiveOn on) (patches_of sight.now.heads.now) n × StepsHigh (patches_of sight.now.heads.now) (level_of sight.now.levels.now.ranks) least (needs_of sight.now.needs.now.lists) crossed.now (slice_index_or (numbers_met sight.now.heads.now walk.now) at 0) n) }
+    ensures { IfSome result (λ n. PassesAt (test.LiveOn on) (patches_of sight.now.heads.now.list.items) n × StepsHigh (patches_of sight.now.heads.now.list.items) (level_of sight.now.levels.now.ranks) least (needs_of sight.now.needs.now.lists) crossed.now (slice_index_or (numbers_met sight.now.heads.now.list.items walk.now) at 0) n) }
 {
-    let Kind::Change(_, block, _) = sight.heads[walk.index_at(at)].kind else {
+    let Kind::Change(_, block, _) = sight.heads.list[walk.index_at(at)].kind else {
         return None;
     };
     let block = u32::from(block);
@@ -187,16 +187,16 @@ fn change_across(
 // of that. So a way that ends below a gate over thousands is found without a visit to all of them.
 fn change_below(sight: &Sight<'_>, walk: &Walk, at: usize, least: u32, on: u32) -> Option<u32>
     requires sees { Sees sight.now }
-    requires visited { Visited sight.now.heads.now walk.now }
+    requires visited { Visited sight.now.heads.now.list.items walk.now }
     requires at { at < length walk.now.met }
-    ensures { IfSome result (λ n. PassesAt (test.LiveOn on) (patches_of sight.now.heads.now) n × StepsBelow (patches_of sight.now.heads.now) (level_of sight.now.levels.now.ranks) least (slice_index_or (numbers_met sight.now.heads.now walk.now) at 0) n) }
+    ensures { IfSome result (λ n. PassesAt (test.LiveOn on) (patches_of sight.now.heads.now.list.items) n × StepsBelow (patches_of sight.now.heads.now.list.items) (level_of sight.now.levels.now.ranks) least (slice_index_or (numbers_met sight.now.heads.now.list.items walk.now) at 0) n) }
 {
     let index = walk.index_at(at);
-    let row = sight.heads[index].dependencies.as_slice();
+    let row = sight.heads.list[index].dependencies.as_slice();
     if row.len() <= SHORT {
         return None;
     }
-    let number = sight.heads[index].number;
+    let number = sight.heads.list[index].number;
     if is_any_hard(sight, index, number) {
         return None;
     }
@@ -220,9 +220,9 @@ pub fn change_near(
 ) -> Option<u32>
     requires sees { Sees sight.now }
     requires crossed { length crossed.now ≡ length sight.now.lists.now }
-    requires visited { Visited sight.now.heads.now walk.now }
+    requires visited { Visited sight.now.heads.now.list.items walk.now }
     requires at { at < length walk.now.met }
-    ensures { IfSome result (λ n. PassesAt (test.LiveOn on) (patches_of sight.now.heads.now) n × StepsHigh (patches_of sight.now.heads.now) (level_of sight.now.levels.now.ranks) least (needs_of sight.now.needs.now.lists) crossed.now (slice_index_or (numbers_met sight.now.heads.now walk.now) at 0) n) }
+    ensures { IfSome result (λ n. PassesAt (test.LiveOn on) (patches_of sight.now.heads.now.list.items) n × StepsHigh (patches_of sight.now.heads.now.list.items) (level_of sight.now.levels.now.ranks) least (needs_of sight.now.needs.now.lists) crossed.now (slice_index_or (numbers_met sight.now.heads.now.list.items walk.now) at 0) n) }
 {
     let below = change_below(sight, walk, at, least, on);
     if below.is_some() {
@@ -242,14 +242,14 @@ pub fn step_down(
 ) -> usize
     requires sees { Sees sight.now }
     requires crossed { length crossed.old ≡ length sight.now.lists.now }
-    requires visited { Visited sight.now.heads.now walk.old }
+    requires visited { Visited sight.now.heads.now.list.items walk.old }
     requires at { at < length walk.old.met }
-    ensures visited { Visited sight.now.heads.now walk.new }
-    ensures visits { Visits (StepsHigh (patches_of sight.now.heads.now) (level_of sight.now.levels.now.ranks) least (needs_of sight.now.needs.now.lists) crossed.old (slice_index_or (numbers_met sight.now.heads.now walk.old) at 0)) (numbers_met sight.now.heads.now walk.old) (numbers_met sight.now.heads.now walk.new) }
-    ensures crossed { ShowsBlockUnder (patches_of sight.now.heads.now) (slice_index_or (numbers_met sight.now.heads.now walk.old) at 0) crossed.old crossed.new }
+    ensures visited { Visited sight.now.heads.now.list.items walk.new }
+    ensures visits { Visits (StepsHigh (patches_of sight.now.heads.now.list.items) (level_of sight.now.levels.now.ranks) least (needs_of sight.now.needs.now.lists) crossed.old (slice_index_or (numbers_met sight.now.heads.now.list.items walk.old) at 0)) (numbers_met sight.now.heads.now.list.items walk.old) (numbers_met sight.now.heads.now.list.items walk.new) }
+    ensures crossed { ShowsBlockUnder (patches_of sight.now.heads.now.list.items) (slice_index_or (numbers_met sight.now.heads.now.list.items walk.old) at 0) crossed.old crossed.new }
 {
     let index = walk.index_at(at);
-    let number = sight.heads[index].number;
+    let number = sight.heads.list[index].number;
     let below = visit_high_below(sight, walk, index, number, least);
     let across = cross(sight, walk, crossed, index, number, least);
     below.saturating_add(across)

@@ -21,11 +21,11 @@ use fst_levels::walk::Walk;
 // at heads only where numbers are missing among the newest ranks.
 fn visit_low(sight: &Sight<'_>, walk: &mut Walk, number: u32, most: u32)
     requires sees { Sees sight.now }
-    requires visited { Visited sight.now.heads.now walk.old }
-    requires live { IsOffDisk (patches_of sight.now.heads.now) number }
-    ensures visited { Visited sight.now.heads.now walk.new }
+    requires visited { Visited sight.now.heads.now.list.items walk.old }
+    requires live { IsOffDisk (patches_of sight.now.heads.now.list.items) number }
+    ensures visited { Visited sight.now.heads.now.list.items walk.new }
     ensures room { walk.new.room ≡ walk.old.room }
-    ensures visits { Visits (λ n. (n ≡ number) × IsLow (patches_of sight.now.heads.now) (level_of sight.now.levels.now.ranks) most n) (numbers_met sight.now.heads.now walk.old) (numbers_met sight.now.heads.now walk.new) }
+    ensures visits { Visits (λ n. (n ≡ number) × IsLow (patches_of sight.now.heads.now.list.items) (level_of sight.now.levels.now.ranks) most n) (numbers_met sight.now.heads.now.list.items walk.old) (numbers_met sight.now.heads.now.list.items walk.new) }
 {
     if let Some(index) = sight.levels.find(sight.heads, number) {
         if sight.levels.level(index) <= most {
@@ -37,11 +37,11 @@ fn visit_low(sight: &Sight<'_>, walk: &mut Walk, number: u32, most: u32)
 // Visits those of the row, none of which is on disk, that are no higher than `most`.
 fn visit_low_row(sight: &Sight<'_>, walk: &mut Walk, row: &[u32], most: u32)
     requires sees { Sees sight.now }
-    requires visited { Visited sight.now.heads.now walk.old }
-    requires live { (n : ℕ) → Contains row.now n → IsOffDisk (patches_of sight.now.heads.now) n }
-    ensures visited { Visited sight.now.heads.now walk.new }
+    requires visited { Visited sight.now.heads.now.list.items walk.old }
+    requires live { (n : ℕ) → Contains row.now n → IsOffDisk (patches_of sight.now.heads.now.list.items) n }
+    ensures visited { Visited sight.now.heads.now.list.items walk.new }
     ensures room { walk.new.room ≡ walk.old.room }
-    ensures visits { Visits (λ n. Contains row.now n × IsLow (patches_of sight.now.heads.now) (level_of sight.now.levels.now.ranks) most n) (numbers_met sight.now.heads.now walk.old) (numbers_met sight.now.heads.now walk.new) }
+    ensures visits { Visits (λ n. Contains row.now n × IsLow (patches_of sight.now.heads.now.list.items) (level_of sight.now.levels.now.ranks) most n) (numbers_met sight.now.heads.now.list.items walk.old) (numbers_met sight.now.heads.now.list.items walk.new) }
 {
     for number in row {
         visit_low(sight, walk, *number, most);
@@ -52,11 +52,11 @@ fn visit_low_row(sight: &Sight<'_>, walk: &mut Walk, row: &[u32], most: u32)
 /// patches it looked at.
 pub fn visit_low_changes(sight: &Sight<'_>, walk: &mut Walk, block: u32, most: u32) -> usize
     requires sees { Sees sight.now }
-    requires visited { Visited sight.now.heads.now walk.old }
+    requires visited { Visited sight.now.heads.now.list.items walk.old }
     requires block { block < length sight.now.lists.now }
-    ensures visited { Visited sight.now.heads.now walk.new }
+    ensures visited { Visited sight.now.heads.now.list.items walk.new }
     ensures room { walk.new.room ≡ walk.old.room }
-    ensures visits { Visits (IsLowChange (patches_of sight.now.heads.now) (level_of sight.now.levels.now.ranks) most block) (numbers_met sight.now.heads.now walk.old) (numbers_met sight.now.heads.now walk.new) }
+    ensures visits { Visits (IsLowChange (patches_of sight.now.heads.now.list.items) (level_of sight.now.levels.now.ranks) most block) (numbers_met sight.now.heads.now.list.items walk.old) (numbers_met sight.now.heads.now.list.items walk.new) }
 {
     // None is lower than the floor of the block.
     if most < sight.levels.floor(block) {
@@ -81,16 +81,16 @@ fn cross(
 ) -> usize
     requires sees { Sees sight.now }
     requires crossed { length crossed.old ≡ length sight.now.lists.now }
-    requires visited { Visited sight.now.heads.now walk.old }
-    requires index { HasIndex sight.now.heads.now number index }
-    ensures visited { Visited sight.now.heads.now walk.new }
+    requires visited { Visited sight.now.heads.now.list.items walk.old }
+    requires index { HasIndex sight.now.heads.now.list.items number index }
+    ensures visited { Visited sight.now.heads.now.list.items walk.new }
     ensures room { walk.new.room ≡ walk.old.room }
-    ensures visits { Visits (λ q. Crosses (patches_of sight.now.heads.now) crossed.old number q × (level_of sight.now.levels.now.ranks q ≤ most)) (numbers_met sight.now.heads.now walk.old) (numbers_met sight.now.heads.now walk.new) }
-    ensures crossed { ShowsBlockOf (patches_of sight.now.heads.now) number crossed.old crossed.new }
+    ensures visits { Visits (λ q. Crosses (patches_of sight.now.heads.now.list.items) crossed.old number q × (level_of sight.now.levels.now.ranks q ≤ most)) (numbers_met sight.now.heads.now.list.items walk.old) (numbers_met sight.now.heads.now.list.items walk.new) }
+    ensures crossed { ShowsBlockOf (patches_of sight.now.heads.now.list.items) number crossed.old crossed.new }
 {
-    if let Kind::Change(_, block, _) = sight.heads[index].kind {
+    if let Kind::Change(_, block, _) = sight.heads.list[index].kind {
         let block = block as u32;
-        if is_hard_in(&sight.heads[index], block) {
+        if is_hard_in(&sight.heads.list[index], block) {
             if !crossed[block as usize] {
                 crossed[block as usize] = true;
                 return visit_low_changes(sight, walk, block, most);
@@ -111,15 +111,15 @@ pub fn step_up(
 ) -> usize
     requires sees { Sees sight.now }
     requires crossed { length crossed.old ≡ length sight.now.lists.now }
-    requires visited { Visited sight.now.heads.now walk.old }
+    requires visited { Visited sight.now.heads.now.list.items walk.old }
     requires at { at < length walk.old.met }
-    ensures visited { Visited sight.now.heads.now walk.new }
+    ensures visited { Visited sight.now.heads.now.list.items walk.new }
     ensures room { walk.new.room ≡ walk.old.room }
-    ensures visits { Visits (StepsLow (patches_of sight.now.heads.now) (level_of sight.now.levels.now.ranks) most crossed.old (slice_index_or (numbers_met sight.now.heads.now walk.old) at 0)) (numbers_met sight.now.heads.now walk.old) (numbers_met sight.now.heads.now walk.new) }
-    ensures crossed { ShowsBlockOf (patches_of sight.now.heads.now) (slice_index_or (numbers_met sight.now.heads.now walk.old) at 0) crossed.old crossed.new }
+    ensures visits { Visits (StepsLow (patches_of sight.now.heads.now.list.items) (level_of sight.now.levels.now.ranks) most crossed.old (slice_index_or (numbers_met sight.now.heads.now.list.items walk.old) at 0)) (numbers_met sight.now.heads.now.list.items walk.old) (numbers_met sight.now.heads.now.list.items walk.new) }
+    ensures crossed { ShowsBlockOf (patches_of sight.now.heads.now.list.items) (slice_index_or (numbers_met sight.now.heads.now.list.items walk.old) at 0) crossed.old crossed.new }
 {
     let index = walk.index_at(at);
-    let head = &sight.heads[index];
+    let head = &sight.heads.list[index];
     let above = head.dependants.as_slice();
     visit_low_row(sight, walk, above, most);
     let across = cross(sight, walk, crossed, index, head.number, most);

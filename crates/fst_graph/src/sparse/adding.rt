@@ -10,14 +10,15 @@ ghost use Rattle.fst_types.specs.Patches.{Empty, Patch};
 ghost use Rattle.fst_types.specs.Refusals.{NoneHolds};
 ghost use Rattle.fst_graph.specs.Fresh.{patch_from};
 ghost use Rattle.fst_graph.specs.Known.{unprepared, rest_place, Refuses, AddsGate, AddsEmpty};
-ghost use Rattle.fst_heads.specs.Heads.{IsRising, patches_of};
+ghost use Rattle.fst_heads.specs.Heads.{patches_of};
 ghost use Rattle.fst_heads.specs.Names.{numbers_of};
 
 use crate::fresh::{Fresh, gate, reserve_landed};
 use crate::prepared::let_go;
 use crate::refusals::{make_fault, room_fault};
 use crate::sparse::Sparse;
-use fst_heads::head::{Head, Kind};
+use fst_heads::head::Kind;
+use fst_heads::heads::Heads;
 use fst_heads::places::weight;
 use fst_heads::row::live_named;
 use fst_types::{Fault, PatchNo, Place};
@@ -50,25 +51,24 @@ fn note_rest(landed: &mut Vec<u32>, number: u32, place: Place)
 // among those that landed.
 fn new_empty(
     alloc: Global,
-    heads: &[Head],
+    heads: &Heads,
     landed: &mut Vec<u32>,
     standing: usize,
     numbers: u32,
     after: &[PatchNo],
 ) -> Result<Fresh, Fault>
-    requires { IsRising heads.now }
     ensures clear { OnOk result ((kept : List Patch) → length kept ≡ standing → NoneHolds (make_order kept numbers (numbers_of after.now))) }
-    ensures depends { IfOk result (λ f. Lists (λ n. IsLiveNumber (patches_of heads.now) n × Contains (numbers_of after.now) n) f.dependencies.items) }
+    ensures depends { IfOk result (λ f. Lists (λ n. IsLiveNumber (patches_of heads.now.list.items) n × Contains (numbers_of after.now) n) f.dependencies.items) }
     ensures empty { IfOk result (λ f. patch_from f ≡ record { number = numbers + 1; kind = Empty; place = rest_place f.dependencies.items; dependencies = f.dependencies.items }) }
     ensures same { landed.new.items ≡ landed.old.items }
     ensures wide { vec_capacity landed.old ≤ vec_capacity landed.new }
-    ensures shelf { OnOk result (length heads.now < vec_capacity landed.new) }
+    ensures shelf { OnOk result (length heads.now.list.items < vec_capacity landed.new) }
     ensures refused { IfErr result (λ f. (kept : List Patch) → length kept ≡ standing → Refuses (make_order kept numbers (numbers_of after.now)) f) }
 {
     if let Some(fault) = make_fault(standing, numbers, after) {
         return Err(fault);
     }
-    if reserve_landed(landed, heads.len() + 1).is_err() {
+    if reserve_landed(landed, heads.list.len() + 1).is_err() {
         return Err(Fault::Memory);
     }
     let Ok(dependencies) = live_named(alloc, heads, after) else {
@@ -96,7 +96,7 @@ impl Sparse {
         if let Some(fault) = room_fault(standing, self.numbers) {
             return Err(fault);
         }
-        if reserve_landed(&mut self.landed, self.columns.heads.len() + 1).is_err() {
+        if reserve_landed(&mut self.landed, self.columns.heads.list.len() + 1).is_err() {
             return Err(Fault::Memory);
         }
         let number = self.numbers + 1;

@@ -33,7 +33,7 @@ impl Sparse {
             .levels
             .forget(&mut self.columns.heads, self.live);
         self.columns.levels.ease();
-        self.columns.ends.shrink(self.columns.heads.len());
+        self.columns.ends.shrink(self.columns.heads.list.len());
         self.forgotten = 0;
         let many = self.landed.len();
         self.landed.clear();
@@ -46,8 +46,8 @@ impl Sparse {
     pub fn forget(&mut self) -> u32
         ensures { Forgets self.old result self.new }
     {
-        let dropped = self.columns.heads.len() - self.live;
-        if dropped < SPARE.max(self.columns.heads.len() / 4) {
+        let dropped = self.columns.heads.list.len() - self.live;
+        if dropped < SPARE.max(self.columns.heads.list.len() / 4) {
             self.mark_landed()
         } else {
             self.drop_landed()

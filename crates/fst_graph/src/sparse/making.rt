@@ -6,7 +6,7 @@ ghost use Rattle.fst_types.specs.Order.{make_order};
 ghost use Rattle.fst_types.specs.declared.grade.Grade.{Grade};
 ghost use Rattle.fst_graph.specs.Known.{Known, Prepared, unprepared, prepared_for, Refuses, DependsGate};
 ghost use Rattle.fst_graph.specs.Sparse.{AddsSparse, ForeseesSparse};
-ghost use Rattle.fst_heads.specs.Heads.{IsRising, kind_of};
+ghost use Rattle.fst_heads.specs.Heads.{kind_of};
 ghost use Rattle.fst_heads.specs.Lists.{entries_of, entry_of, HasRoomInList};
 ghost use Rattle.fst_heads.specs.Names.{numbers_of};
 ghost use Rattle.fst_heads.specs.Frames.{HasRoomBelow};
@@ -23,7 +23,8 @@ use crate::refusals::make_fault;
 use crate::sparse::Sparse;
 use crate::sparse::reserving::{reserve_around, reserve_in};
 use fst_heads::growth::gain_one;
-use fst_heads::head::{Head, Kind};
+use fst_heads::head::Kind;
+use fst_heads::heads::Heads;
 use fst_heads::links::link;
 use fst_heads::lists::Listed;
 use fst_heads::pending::{Pending, is_of_block};
@@ -38,12 +39,11 @@ use fst_walks::lift::rise_of;
 use std::alloc::Global;
 
 // The gate gains the number, which is that of the newest patch.
-fn tie(alloc: Global, heads: &mut Vec<Head>, gate: u32, number: u32)
-    requires rising { IsRising heads.old.items }
-    requires counted { (x : Node) → Contains (nodes_of heads.old.items) x → x.patch.number ≡ gate → (x.sums.count + (sums_of (pending_in (nodes_of heads.old.items)) (number ∷ [])).count < 65536) × Fits x.sums }
-    requires below { HasRoomBelow heads.old.items gate }
-    requires above { HasRoomAbove heads.old.items (number ∷ []) }
-    ensures { nodes_of heads.new.items ≡ map (linked_to (number ∷ []) gate) (map (at_number gate (gains_names (number ∷ []) (sums_of (pending_in (nodes_of heads.old.items)) (number ∷ [])))) (nodes_of heads.old.items)) }
+fn tie(alloc: Global, heads: &mut Heads, gate: u32, number: u32)
+    requires counted { (x : Node) → Contains (nodes_of heads.old.list.items) x → x.patch.number ≡ gate → (x.sums.count + (sums_of (pending_in (nodes_of heads.old.list.items)) (number ∷ [])).count < 65536) × Fits x.sums }
+    requires below { HasRoomBelow heads.old.list.items gate }
+    requires above { HasRoomAbove heads.old.list.items (number ∷ []) }
+    ensures { nodes_of heads.new.list.items ≡ map (linked_to (number ∷ []) gate) (map (at_number gate (gains_names (number ∷ []) (sums_of (pending_in (nodes_of heads.old.list.items)) (number ∷ [])))) (nodes_of heads.old.list.items)) }
 {
     let row = row_of(alloc, number);
     let sums = row_sums(heads, row.as_slice());

@@ -36,7 +36,7 @@ impl Sparse {
         if let Some(fault) = self.pair_fault() {
             return Err(fault);
         }
-        if reserve_landed(&mut self.landed, self.columns.heads.len() + 2).is_err() {
+        if reserve_landed(&mut self.landed, self.columns.heads.list.len() + 2).is_err() {
             return Err(Fault::Memory);
         }
         let Ok(()) = self.columns.add_two(self.alloc, self.numbers) else {

@@ -4,7 +4,6 @@ ghost use Rattle.std.specs.Prelude.{◌≡◌, ◌≤◌, ◌<◌, List, Contain
 ghost use Rattle.fst_graph.specs.Fresh.{HasPlaces, IsRoomier};
 ghost use Rattle.fst_graph.specs.Ready.{HasRoomAround};
 ghost use Rattle.fst_heads.specs.Covers.{AreCovered, Covering, HasRoomForRuns};
-ghost use Rattle.fst_heads.specs.Heads.{IsRising};
 ghost use Rattle.fst_heads.specs.Lists.{entries_of, HasRoomInList};
 ghost use Rattle.fst_types.specs.Patches.{Patch};
 ghost use Rattle.fst_levels.specs.declared.needs.Way.{Way};
@@ -13,7 +12,7 @@ use crate::columns::Columns;
 use crate::fresh::reserve_landed;
 use crate::prepared::{Prepared, reserve_on};
 use fst_heads::cover::Cover;
-use fst_heads::head::Head;
+use fst_heads::heads::Heads;
 use fst_heads::links::{reserve_above, reserve_below};
 use fst_heads::lists::Listed;
 use fst_levels::needs::Needs;
@@ -26,17 +25,16 @@ pub fn reserve_around(
     landed: &mut Vec<u32>,
     prepared: &Prepared,
 ) -> Result<(), AllocError>
-    requires { IsRising columns.old.heads.items }
     ensures roomier { IsRoomier columns.old columns.new }
     ensures places { OnOk result (HasPlaces 1 columns.new) }
-    ensures waits { OnOk result (vec_len columns.new.heads < vec_capacity columns.new.queue) }
+    ensures waits { OnOk result (vec_len columns.new.heads.list < vec_capacity columns.new.queue) }
     ensures same { landed.new.items ≡ landed.old.items }
     ensures wide { vec_capacity landed.old ≤ vec_capacity landed.new }
-    ensures shelf { OnOk result (vec_len columns.new.heads < vec_capacity landed.new) }
-    ensures around { OnOk result (HasRoomAround columns.new.heads.items prepared.now) }
+    ensures shelf { OnOk result (vec_len columns.new.heads.list < vec_capacity landed.new) }
+    ensures around { OnOk result (HasRoomAround columns.new.heads.list.items prepared.now) }
 {
     columns.reserve(1)?;
-    reserve_landed(landed, columns.heads.len() + 1)?;
+    reserve_landed(landed, columns.heads.list.len() + 1)?;
     reserve_above(&mut columns.heads, prepared.dependencies.as_slice())?;
     match prepared.gates {
         Some(gates) => reserve_below(&mut columns.heads, gates.tail),
@@ -49,10 +47,9 @@ pub fn reserve_in(
     lists: &mut Vec<Vec<Listed>>,
     covers: &mut Vec<Cover>,
     needs: &mut Needs,
-    heads: &[Head],
+    heads: &Heads,
     prepared: &Prepared,
 ) -> Result<(), AllocError>
-    requires rising { IsRising heads.now }
     requires list { prepared.now.block < length lists.old.items }
     requires cover { prepared.now.block < length covers.old.items }
     requires needs { prepared.now.block < length needs.old.lists }

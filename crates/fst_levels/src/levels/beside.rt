@@ -2,12 +2,12 @@
 
 ghost use Rattle.std.specs.Prelude.{◌≡◌, ◌≢◌, ◌<◌, ℕ, AllPairs, length, map, slice_index_or};
 ghost use Rattle.fst_types.specs.Dependencies.{DependsOn};
-ghost use Rattle.fst_heads.specs.Heads.{IsRising, patches_of};
+ghost use Rattle.fst_heads.specs.Heads.{patches_of};
 ghost use Rattle.fst_heads.specs.Indices.{HasIndex};
 ghost use Rattle.fst_levels.specs.Leveling.{IsLeveled, jump_of, parent_of};
 
 use crate::levels::{Ancestry, Levels, Rank};
-use fst_heads::head::Head;
+use fst_heads::heads::Heads;
 
 impl Levels {
     /// The head at the index has this ancestry.
@@ -35,12 +35,11 @@ impl Levels {
     }
 
     /// That hard change is kept over the patch at the index.
-    pub(crate) fn put_hard_over(&mut self, heads: &[Head], index: usize, over: u32)
-        requires rising { IsRising heads.now }
-        requires index { index < length heads.now }
-        requires leveled { IsLeveled (patches_of heads.now) (length self.old.floors) self.old }
-        requires under { (n : ℕ) → HasIndex heads.now n index → DependsOn (patches_of heads.now) over n }
-        ensures leveled { IsLeveled (patches_of heads.now) (length self.old.floors) self.new }
+    pub(crate) fn put_hard_over(&mut self, heads: &Heads, index: usize, over: u32)
+        requires index { index < length heads.now.list.items }
+        requires leveled { IsLeveled (patches_of heads.now.list.items) (length self.old.floors) self.old }
+        requires under { (n : ℕ) → HasIndex heads.now.list.items n index → DependsOn (patches_of heads.now.list.items) over n }
+        ensures leveled { IsLeveled (patches_of heads.now.list.items) (length self.old.floors) self.new }
         ensures room { (length self.new.ranks ≡ length self.old.ranks) × (self.new.room ≡ self.old.room) }
     {
         let _ = heads;

@@ -21,21 +21,21 @@ returns-in-Err-clause-first c = seal_first _ c.args.numbers c.args.gate (numbers
 
 pub returns-then-on-gt-MAX_NAMES-clause-first : goal.returns-then-on-gt-MAX_NAMES-clause-first
 returns-then-on-gt-MAX_NAMES-clause-first c =
-    let gate = kept c.args.sight.now.heads.now c.args.numbers c.args.gate c.requires.gone c.requires.sees.disk c.in-Ok.ensures.is_open c.in-Ok.ensures.clear in
+    let gate = kept c.args.sight.now.heads.now.list.items c.args.numbers c.args.gate c.requires.gone c.requires.sees.disk c.in-Ok.ensures.is_open c.in-Ok.ensures.clear in
     inr (gate.0, inr (gate.1.0, inr (gate.1.1.0, inl (omega (arith, length-map c.args.on.now (λ n. n.0), c.if-on-gt-MAX_NAMES.true), refl))))
 
 pub returns-then-names_unknown-clause-first : goal.returns-then-names_unknown-clause-first
 returns-then-names_unknown-clause-first c =
-    let gate = kept c.args.sight.now.heads.now c.args.numbers c.args.gate c.requires.gone c.requires.sees.disk c.in-Ok.ensures.is_open c.in-Ok.ensures.clear in
+    let gate = kept c.args.sight.now.heads.now.list.items c.args.numbers c.args.gate c.requires.gone c.requires.sees.disk c.in-Ok.ensures.is_open c.in-Ok.ensures.clear in
     let few : max_names < length (numbers_of c.args.on.now) → ⊥ = λ lt. omega (arith, lt, length-map c.args.on.now (λ n. n.0), c.if-on-gt-MAX_NAMES.false) in
     inr (gate.0, inr (gate.1.0, inr (gate.1.1.0, inr (few, inl (c.names_unknown.ensures.0 c.if-names_unknown.true, refl)))))
 
 pub returns-then-closes_cycle-clause-first : goal.returns-then-closes_cycle-clause-first
 returns-then-closes_cycle-clause-first c =
-    let gate = kept c.args.sight.now.heads.now c.args.numbers c.args.gate c.requires.gone c.requires.sees.disk c.in-Ok.ensures.is_open c.in-Ok.ensures.clear in
+    let gate = kept c.args.sight.now.heads.now.list.items c.args.numbers c.args.gate c.requires.gone c.requires.sees.disk c.in-Ok.ensures.is_open c.in-Ok.ensures.clear in
     let few : max_names < length (numbers_of c.args.on.now) → ⊥ = λ lt. omega (arith, lt, length-map c.args.on.now (λ n. n.0), c.if-on-gt-MAX_NAMES.false) in
     let known : NamesUnknown c.args.numbers (numbers_of c.args.on.now) → ⊥ = λ u. false≢true (sym c.if-names_unknown.false ∙ c.names_unknown.ensures.1 u) in
-    inr (gate.0, inr (gate.1.0, inr (gate.1.1.0, inr (few, inr (known, inl (above_open (is_forgotten_in (nodes_of c.args.sight.now.heads.now)) (patches_of c.args.sight.now.heads.now) c.args.numbers c.requires.gone c.requires.sees.disk c.args.gate (numbers_of c.args.on.now) c.in-Ok.ensures.is_open (c.closes_cycle.ensures.closes.0 c.if-closes_cycle.true), refl))))))
+    inr (gate.0, inr (gate.1.0, inr (gate.1.1.0, inr (few, inr (known, inl (above_open (is_forgotten_in (nodes_of c.args.sight.now.heads.now.list.items)) (patches_of c.args.sight.now.heads.now.list.items) c.args.numbers c.requires.gone c.requires.sees.disk c.args.gate (numbers_of c.args.on.now) c.in-Ok.ensures.is_open (c.closes_cycle.ensures.closes.0 c.if-closes_cycle.true), refl))))))
 
 pub returns-clause-clear : goal.returns-clause-clear
 returns-clause-clear c =

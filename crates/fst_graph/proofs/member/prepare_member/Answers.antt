@@ -9,14 +9,14 @@ use Rattle.fst_graph.proofs.member.prepare_member.Goals as goal
 
 pub sparse_row-requires-clause-listed : goal.sparse_row-requires-clause-listed
 sparse_row-requires-clause-listed c =
-    rw (c.deref.ensures.value, ← c.index-sight-block.is) (listed_at (λ l. entries_of l.items) (patches_of c.args.sight.now.heads.now) c.args.sight.now.lists.now c.args.block c.index-sight-block.result c.requires.block c.index-sight-block.is c.requires.sees.listed)
+    rw (c.deref.ensures.value, ← c.index-sight-block.is) (listed_at (λ l. entries_of l.items) (patches_of c.args.sight.now.heads.now.list.items) c.args.sight.now.lists.now c.args.block c.index-sight-block.result c.requires.block c.index-sight-block.is c.requires.sees.listed)
 
 pub sparse_row-requires-clause-covered : goal.sparse_row-requires-clause-covered
 sparse_row-requires-clause-covered c = c.requires.sees.covered.each c.args.block c.index-sight-block-2.result c.requires.block
 
 pub returns-clause-depends : goal.returns-clause-depends
 returns-clause-depends c =
-    let patches = patches_of c.args.sight.now.heads.now in
+    let patches = patches_of c.args.sight.now.heads.now.list.items in
     let head = c.args.gates.head in
     let after = numbers_of c.if-is_some.after.now in
     let opened = told_open patches head c.if_open-opened.result c.is_some.result c.is_some.ensures c.if_open-opened.ensures.some c.if_open-opened.ensures.none in
@@ -32,7 +32,7 @@ returns-clause-depends c =
 
 pub returns-clause-told : goal.returns-clause-told
 returns-clause-told c =
-    let patches = patches_of c.args.sight.now.heads.now in
+    let patches = patches_of c.args.sight.now.heads.now.list.items in
     member_told patches c.requires.lawful.0 c.requires.lawful.1 c.args.gates.head c.args.block c.in-Ok-sparse_row.dependencies.items c.grade_of-told.result c.if_open-opened.result c.if_open-opened.ensures.some c.if_open-opened.ensures.none
     (subst (λ r. IsTold patches c.args.block r (MayBeHard patches c.if_open-opened.result c.args.block r) c.grade_of-told.result) c.as_slice-row.ensures c.grade_of-told.ensures.told)
 

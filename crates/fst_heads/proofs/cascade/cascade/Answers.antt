@@ -1,28 +1,24 @@
 use Rattle.fst_heads.proofs.Basics.{◌≡◌, ◌∙◌, ◌++◌, ◌∷◌, [], get_or, if◌then◌else◌, length, count_by, ap, vec_len, subst, sym, arith, length-map, nil_from_length, rules}
-use Rattle.fst_heads.proofs.{Patches.In-from_Contains, Words.{IsRising, HasIndex, HasNone, node_of, nodes_of, is_pending, Sinks, Spreading, is_waiting, now, AllStand}}
+use Rattle.fst_heads.proofs.{Patches.In-from_Contains, Words.{node_of, nodes_of, is_pending, Sinks, Spreading, is_waiting, now, AllStand}}
 use Rattle.fst_heads.proofs.{Beside.{waits_stale, waiting_recorded, waiting_notified}, Landed.{length_if, place_noted, notified_noted}}
-use Rattle.fst_heads.proofs.Popping.{fits_there, stale_there, rising_settled, after_is, once_after, live_after, updated_after, room_after, turned, cascaded_heads}
+use Rattle.fst_heads.proofs.Popping.{fits_there, stale_there, after_is, once_after, live_after, updated_after, room_after, turned, cascaded_heads}
 use Rattle.fst_heads.proofs.{Notifying.last_waits, Indexed.{rising_indices, none_of_number, node_at_index, node_is}, Stands.stand_notified, Starting.settled_spread}
 use Rattle.fst_heads.proofs.Carried.{spread_trans, length_spread}
 use Rattle.fst_heads.proofs.Going.{sinks_way}
 use Rattle.fst_heads.proofs.Words.pending
 use Rattle.fst_heads.proofs.cascade.cascade.Goals as goal
 
-pub index_of-requires : goal.index_of-requires
-index_of-requires c = subst IsRising (sym c.deref.ensures.value) (rising_indices c.loop-number.heads.items c.loop-number.invariant.spreading.rising)
-
 pub record_at-old-requires : goal.record_at-old-requires
 record_at-old-requires c =
-    let heads = c.loop-number.heads.items in
+    let heads = c.loop-number.heads.list.items in
     let blocks = vec_len c.args.standings.now in
     let queue = c.pop.new.self.items in
     let q = c.in-Some.number in
     let s = c.in-Some-index_of.index in
     let S = subst (Spreading Sinks (nodes_of heads) blocks) c.in-Some.ensures.items c.loop-number.invariant.spreading in
-    let found = subst (λ hs. HasIndex hs q s) c.deref.ensures.value c.in-Some-index_of.ensures.found in
+    let found = c.in-Some-index_of.ensures.found in
     record {
-      rising = rising_indices heads S.rising;
-      index = omega (arith, found.0, c.loop-number.heads.ok.0);
+      index = omega (arith, found.0, c.loop-number.heads.list.ok.0);
       stale = λ d. record {
         fits = fits_there sinks_way heads blocks queue q s c.requires.room.0 S c.loop-number.invariant.linked c.loop-number.invariant.distinct found d;
         sinks = S.moves (get_or (nodes_of heads) s d) (node_at_index heads q s d found).0;
@@ -35,62 +31,61 @@ record_at-old-requires c =
 
 pub notify-requires : goal.notify-requires
 notify-requires c =
-    let heads = c.loop-number.heads.items in
+    let heads = c.loop-number.heads.list.items in
     let blocks = vec_len c.args.standings.now in
     let queue = c.pop.new.self.items in
     let q = c.in-Some.number in
     let s = c.in-Some-index_of.index in
     let S = subst (Spreading Sinks (nodes_of heads) blocks) c.in-Some.ensures.items c.loop-number.invariant.spreading in
-    let found = subst (λ hs. HasIndex hs q s) c.deref.ensures.value c.in-Some-index_of.ensures.found in
+    let found = c.in-Some-index_of.ensures.found in
     let settled = c.record_at-old.ensures in
     let linked = c.loop-number.invariant.linked in
     let distinct = c.loop-number.invariant.distinct in
     let was = c.record_at-old.result.0 in
     let is = c.record_at-old.result.1 in
-    let after = nodes_of c.record_at-old.new.heads.items in
-    let long = length_spread (nodes_of c.args.heads.now.items) (nodes_of heads) c.loop-number.invariant.spread in
+    let after = nodes_of c.record_at-old.new.heads.list.items in
+    let long = length_spread (nodes_of c.args.heads.now.list.items) (nodes_of heads) c.loop-number.invariant.spread in
     record {
-      rising = rising_settled q heads c.record_at-old.new.heads.items (after_is sinks_way heads blocks queue q s c.requires.room.0 S linked distinct found was is after settled.old settled.new settled.nodes) (rising_indices heads S.rising);
-      index = omega (arith, found.0, c.loop-number.heads.ok.0, settled.len);
+      index = omega (arith, found.0, c.loop-number.heads.list.ok.0, settled.len);
       once = once_after sinks_way heads blocks queue q s c.requires.room.0 S linked distinct found was is after settled.old settled.new settled.nodes;
       summed = updated_after sinks_way heads blocks queue q s c.requires.room.0 S linked distinct found was is after settled.old settled.new settled.nodes;
       live = live_after sinks_way heads blocks queue q s c.requires.room.0 S linked distinct found was is after settled.old settled.new settled.nodes;
       room = λ d.
           let room = room_after sinks_way heads blocks queue q s c.requires.room.0 S linked distinct found was is after settled.old settled.new settled.nodes d in
-          omega (arith, room, long, length-map heads node_of, length-map c.args.heads.now.items node_of, c.requires.room.1, c.loop-number.invariant.capacity, c.in-Some.ensures.capacity);
+          omega (arith, room, long, length-map heads node_of, length-map c.args.heads.now.list.items node_of, c.requires.room.1, c.loop-number.invariant.capacity, c.in-Some.ensures.capacity);
     }
 
 pub loop-number-smaller-in-Some-index_of : goal.loop-number-smaller-in-Some-index_of
 loop-number-smaller-in-Some-index_of c =
-    let heads = c.loop-number.heads.items in
+    let heads = c.loop-number.heads.list.items in
     let nodes = nodes_of heads in
     let blocks = vec_len c.args.standings.now in
     let queue = c.pop.new.self.items in
     let q = c.in-Some.number in
     let s = c.in-Some-index_of.index in
     let S = subst (Spreading Sinks nodes blocks) c.in-Some.ensures.items c.loop-number.invariant.spreading in
-    let found = subst (λ hs. HasIndex hs q s) c.deref.ensures.value c.in-Some-index_of.ensures.found in
+    let found = c.in-Some-index_of.ensures.found in
     let settled = c.record_at-old.ensures in
-    let after = nodes_of c.record_at-old.new.heads.items in
-    let turn = turned sinks_way heads blocks queue q s c.requires.room.0 S c.loop-number.invariant.linked c.loop-number.invariant.distinct found c.record_at-old.result.0 c.record_at-old.result.1 after settled.old settled.new settled.nodes (nodes_of c.notify.new.heads.items) c.notify.new.queue.items c.notify.ensures.nodes c.notify.ensures.queued in
+    let after = nodes_of c.record_at-old.new.heads.list.items in
+    let turn = turned sinks_way heads blocks queue q s c.requires.room.0 S c.loop-number.invariant.linked c.loop-number.invariant.distinct found c.record_at-old.result.0 c.record_at-old.result.1 after settled.old settled.new settled.nodes (nodes_of c.notify.new.heads.list.items) c.notify.new.queue.items c.notify.ensures.nodes c.notify.ensures.queued in
     turn.falls
 
 pub loop-number-preserved-in-Some-index_of : goal.loop-number-preserved-in-Some-index_of
 loop-number-preserved-in-Some-index_of c =
-    let heads = c.loop-number.heads.items in
+    let heads = c.loop-number.heads.list.items in
     let nodes = nodes_of heads in
     let blocks = vec_len c.args.standings.now in
     let queue = c.pop.new.self.items in
     let q = c.in-Some.number in
     let s = c.in-Some-index_of.index in
     let S = subst (Spreading Sinks nodes blocks) c.in-Some.ensures.items c.loop-number.invariant.spreading in
-    let found = subst (λ hs. HasIndex hs q s) c.deref.ensures.value c.in-Some-index_of.ensures.found in
+    let found = c.in-Some-index_of.ensures.found in
     let settled = c.record_at-old.ensures in
-    let after = nodes_of c.record_at-old.new.heads.items in
-    let turn = turned sinks_way heads blocks queue q s c.requires.room.0 S c.loop-number.invariant.linked c.loop-number.invariant.distinct found c.record_at-old.result.0 c.record_at-old.result.1 after settled.old settled.new settled.nodes (nodes_of c.notify.new.heads.items) c.notify.new.queue.items c.notify.ensures.nodes c.notify.ensures.queued in
+    let after = nodes_of c.record_at-old.new.heads.list.items in
+    let turn = turned sinks_way heads blocks queue q s c.requires.room.0 S c.loop-number.invariant.linked c.loop-number.invariant.distinct found c.record_at-old.result.0 c.record_at-old.result.1 after settled.old settled.new settled.nodes (nodes_of c.notify.new.heads.list.items) c.notify.new.queue.items c.notify.ensures.nodes c.notify.ensures.queued in
     let same : vec_len c.loop-number.standings ≡ vec_len c.args.standings.now = omega (arith, c.loop-number.standings.ok.0, c.loop-number.invariant.standing.long) in
-    let start = nodes_of c.args.heads.now.items in
-    let next = nodes_of c.notify.new.heads.items in
+    let start = nodes_of c.args.heads.now.list.items in
+    let next = nodes_of c.notify.new.heads.list.items in
     let d = (last_waits nodes blocks queue q S).0 in
     let here = last_waits nodes blocks queue q S in
     let waits = waits_stale here.0 (S.moves here.0 here.1) here.3 in
@@ -121,27 +116,27 @@ loop-number-preserved-in-Some-index_of c =
 
 pub note_landing-requires : goal.note_landing-requires
 note_landing-requires c none =
-    let heads = c.loop-number.heads.items in
+    let heads = c.loop-number.heads.list.items in
     let nodes = nodes_of heads in
     let q = c.in-Some.number in
     let s = c.in-Some-index_of.index in
     let S = subst (Spreading Sinks nodes (vec_len c.args.standings.now)) c.in-Some.ensures.items c.loop-number.invariant.spreading in
-    let found = subst (λ hs. HasIndex hs q s) c.deref.ensures.value c.in-Some-index_of.ensures.found in
+    let found = c.in-Some-index_of.ensures.found in
     let here = last_waits nodes (vec_len c.args.standings.now) c.pop.new.self.items q S in
     let d = here.0 in
     let is = node_is heads q s here.0 d (rising_indices heads S.rising) found here.1 here.2 in
     let told = ap (λ p. is_pending p pending.Nothing) (sym (ap now is) ∙ (sym (c.record_at-old.ensures.new d) ∙ none)) in
     let place = place_noted nodes c.loop-number.landed.items q here.0 S.rising c.loop-number.invariant.listed here.1 here.2 (waits_stale here.0 (S.moves here.0 here.1) here.3) told in
-    let long = length_spread (nodes_of c.args.heads.now.items) nodes c.loop-number.invariant.spread in
-    omega (arith, place, long, length-map heads node_of, length-map c.args.heads.now.items node_of, c.requires.room.2, c.loop-number.invariant.shelf, c.loop-number.landed.ok.0)
+    let long = length_spread (nodes_of c.args.heads.now.list.items) nodes c.loop-number.invariant.spread in
+    omega (arith, place, long, length-map heads node_of, length-map c.args.heads.now.list.items node_of, c.requires.room.2, c.loop-number.invariant.shelf, c.loop-number.landed.ok.0)
 
 -- the number is that of a head
 absent : (c : goal.In_default-index_of) → ⊥
 absent c =
-    let nodes = nodes_of c.loop-number.heads.items in
+    let nodes = nodes_of c.loop-number.heads.list.items in
     let S = subst (Spreading Sinks nodes (vec_len c.args.standings.now)) c.in-Some.ensures.items c.loop-number.invariant.spreading in
     let x = last_waits nodes (vec_len c.args.standings.now) c.pop.new.self.items c.in-Some.number S in
-    none_of_number c.loop-number.heads.items c.in-Some.number x.0 (subst (λ hs. HasNone hs c.in-Some.number) c.deref.ensures.value c.in_default-index_of.ensures.none) x.1 x.2
+    none_of_number c.loop-number.heads.list.items c.in-Some.number x.0 (c.in_default-index_of.ensures.none) x.1 x.2
 
 pub loop-number-smaller : goal.loop-number-smaller
 loop-number-smaller c = absurd (absent c)
@@ -152,10 +147,10 @@ loop-number-preserved c = absurd (absent c)
 pub returns-clause-settled : goal.returns-clause-settled
 returns-clause-settled c =
     -- nothing waits where nothing was popped
-    let left : Spreading Sinks (nodes_of c.loop-number.heads.items) (vec_len c.args.standings.now) [] = grind (arith, nil_from_length) in
-    settled_spread (nodes_of c.loop-number.heads.items) (vec_len c.args.standings.now) left
+    let left : Spreading Sinks (nodes_of c.loop-number.heads.list.items) (vec_len c.args.standings.now) [] = grind (arith, nil_from_length) in
+    settled_spread (nodes_of c.loop-number.heads.list.items) (vec_len c.args.standings.now) left
 
 pub returns-clause-placed : goal.returns-clause-placed
 returns-clause-placed c =
-    let left : Spreading Sinks (nodes_of c.loop-number.heads.items) (vec_len c.args.standings.now) [] = grind (arith, nil_from_length) in
-    cascaded_heads c.args.heads.now.items c.loop-number.heads.items (vec_len c.args.standings.now) left c.loop-number.invariant.spread
+    let left : Spreading Sinks (nodes_of c.loop-number.heads.list.items) (vec_len c.args.standings.now) [] = grind (arith, nil_from_length) in
+    cascaded_heads c.args.heads.now.list.items c.loop-number.heads.list.items (vec_len c.args.standings.now) left c.loop-number.invariant.spread

@@ -6,7 +6,7 @@ use Rattle.fst_heads.proofs.cascade.seal_at.Goals as goal
 pub is_recorded-requires : goal.is_recorded-requires
 is_recorded-requires c =
     let head = c.index_mut-head.result.now in
-    subst Fits (sym (ap (λ (x : Node). x.sums) c.rest.ensures.node ∙ rested_sums (node_of (record head { kind = kinds.SealedGate })))) (c.requires.fits (node_of head) (node_in c.args.heads.now.items c.args.index head c.requires.index.0 c.index_mut-head.ensures.value))
+    subst Fits (sym (ap (λ (x : Node). x.sums) c.rest.ensures.node ∙ rested_sums (node_of (record head { kind = kinds.SealedGate })))) (c.requires.fits (node_of head) (node_in c.args.heads.now.list.items c.args.index head c.requires.index.0 c.index_mut-head.ensures.value))
 
 pub returns-then-not-is_recorded-clause-nodes : goal.returns-then-not-is_recorded-clause-nodes
 returns-then-not-is_recorded-clause-nodes c = grind (arith, at_index)
@@ -14,7 +14,7 @@ returns-then-not-is_recorded-clause-nodes c = grind (arith, at_index)
 pub returns-then-not-is_recorded-clause-queued : goal.returns-then-not-is_recorded-clause-queued
 returns-then-not-is_recorded-clause-queued c =
     c.push_reserved.ensures.items
-    ∙ waits_index c.args.heads.now.items c.args.gate c.args.index (λ x. not (is_recorded (seals x))) c.index_mut-head.result.now c.args.queue.now.items c.requires.rising c.requires.index
+    ∙ waits_index c.args.heads.now.list.items c.args.gate c.args.index (λ x. not (is_recorded (seals x))) c.index_mut-head.result.now c.args.queue.now.items c.args.heads.now.rising c.requires.index
     (sym (ap (λ h. not (is_recorded (seals (node_of h)))) c.index_mut-head.ensures.value) ∙ (ap (λ x. not (is_recorded x)) (sym c.rest.ensures.node) ∙ (ap not (sym c.is_recorded.ensures) ∙ ap not c.if-not-is_recorded.true)))
 
 pub returns-else-not-is_recorded-clause-nodes : goal.returns-else-not-is_recorded-clause-nodes
@@ -22,11 +22,11 @@ returns-else-not-is_recorded-clause-nodes c = grind (arith, at_index)
 
 pub returns-else-not-is_recorded-clause-queued : goal.returns-else-not-is_recorded-clause-queued
 returns-else-not-is_recorded-clause-queued c =
-    stays_index c.args.heads.now.items c.args.gate c.args.index (λ x. not (is_recorded (seals x))) c.index_mut-head.result.now c.args.queue.now.items c.requires.rising c.requires.index
+    stays_index c.args.heads.now.list.items c.args.gate c.args.index (λ x. not (is_recorded (seals x))) c.index_mut-head.result.now c.args.queue.now.items c.args.heads.now.rising c.requires.index
     (sym (ap (λ h. not (is_recorded (seals (node_of h)))) c.index_mut-head.ensures.value) ∙ (ap (λ x. not (is_recorded x)) (sym c.rest.ensures.node) ∙ (ap not (sym c.is_recorded.ensures) ∙ ap not c.if-not-is_recorded.false)))
 
 pub returns-then-not-is_recorded-clause-frames : goal.returns-then-not-is_recorded-clause-frames
-returns-then-not-is_recorded-clause-frames c = frames_set c.args.heads.now.items c.args.index _ c.index_mut-head.result.now c.requires.index.0 (c.rest.ensures.frame ∙ ap frame_of c.index_mut-head.ensures.value)
+returns-then-not-is_recorded-clause-frames c = frames_set c.args.heads.now.list.items c.args.index _ c.index_mut-head.result.now c.requires.index.0 (c.rest.ensures.frame ∙ ap frame_of c.index_mut-head.ensures.value)
 
 pub returns-else-not-is_recorded-clause-frames : goal.returns-else-not-is_recorded-clause-frames
-returns-else-not-is_recorded-clause-frames c = frames_set c.args.heads.now.items c.args.index _ c.index_mut-head.result.now c.requires.index.0 (c.rest.ensures.frame ∙ ap frame_of c.index_mut-head.ensures.value)
+returns-else-not-is_recorded-clause-frames c = frames_set c.args.heads.now.list.items c.args.index _ c.index_mut-head.result.now c.requires.index.0 (c.rest.ensures.frame ∙ ap frame_of c.index_mut-head.ensures.value)

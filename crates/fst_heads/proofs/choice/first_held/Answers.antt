@@ -6,14 +6,14 @@ use Rattle.fst_heads.proofs.choice.first_held.Goals.{then-is_held_at+else-not-fr
 pub loop-left-init : goal.loop-left-init
 loop-left-init c =
     let b = c.args.block in
-    let heads = c.args.heads.now in
+    let heads = c.args.heads.now.list.items in
     let list = c.args.list.now in
-    let whole = passing_start b (is_held_on b) (held_listed b) heads list c.requires.rising c.requires.listed in
+    let whole = passing_start b (is_held_on b) (held_listed b) heads list c.args.heads.now.rising c.requires.listed in
     record { found = ([], append-nil (passing (is_held_on b) heads list) ∙ whole, refl); few = omega (arith, ap length whole, c.requires.held) }
 
 pub returns-then-not-from_back-clause-least : goal.returns-then-not-from_back-clause-least
 returns-then-not-from_back-clause-least c =
-    let heads = c.args.heads.now in
+    let heads = c.args.heads.now.list.items in
     let held = is_held_on c.args.block in
     let n = c.in-Some.listed.number in
     let others = passing held heads c.in-Some.others.now in
@@ -23,7 +23,7 @@ returns-then-not-from_back-clause-least c =
 
 pub loop-left-preserved : goal.loop-left-preserved
 loop-left-preserved c =
-    let heads = c.args.heads.now in
+    let heads = c.args.heads.now.list.items in
     let held = is_held_on c.args.block in
     let rest = c.loop-left.rest.now in
     let n = c.in-Some.listed.number in
@@ -50,8 +50,8 @@ pub returns-after-loop-left-clause-least : goal.returns-after-loop-left-clause-l
 returns-after-loop-left-clause-least c = (first_found c.loop-left.least _ _ c.loop-left.invariant.found (omega (arith, c.loop-left.invariant.few, c.loop-left-test.false))).1
 
 -- nothing is left of the list
-none_left : (c : goal.In_default) → length (passing (is_held_on c.args.block) c.args.heads.now c.loop-left.rest.now) ≤ 0
-none_left c = subst (λ list. length (passing (is_held_on c.args.block) c.args.heads.now list) ≤ 0) (sym c.in_default.ensures.none) (omega arith)
+none_left : (c : goal.In_default) → length (passing (is_held_on c.args.block) c.args.heads.now.list.items c.loop-left.rest.now) ≤ 0
+none_left c = subst (λ list. length (passing (is_held_on c.args.block) c.args.heads.now.list.items list) ≤ 0) (sym c.in_default.ensures.none) (omega arith)
 
 pub returns-in_default-clause-none : goal.returns-in_default-clause-none
 returns-in_default-clause-none c = (first_found c.loop-left.least _ _ c.loop-left.invariant.found (none_left c)).0

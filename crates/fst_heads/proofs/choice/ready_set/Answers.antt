@@ -8,9 +8,9 @@ use Rattle.fst_heads.proofs.choice.ready_set.Goals as goal
 pub loop-left-init : goal.loop-left-init
 loop-left-init c =
     let b = c.args.block in
-    let heads = c.args.heads.now in
+    let heads = c.args.heads.now.list.items in
     let list = c.args.list.now in
-    let whole = passing_start b (is_ready_on b) (ready_listed b) heads list c.requires.rising c.requires.listed in record {
+    let whole = passing_start b (is_ready_on b) (ready_listed b) heads list c.args.heads.now.rising c.requires.listed in record {
       found = rw (c.new-front.ensures.items, c.new-back.ensures.items) (append-nil (passing (is_ready_on b) heads list) ∙ whole);
       few = omega (arith, ap length whole, c.requires.most);
     }
@@ -23,7 +23,7 @@ kept_ok (Err y) more old new p e = absurd (false≢true (sym e))
 pub loop-left-preserved : goal.loop-left-preserved
 loop-left-preserved c =
     let b = c.args.block in
-    let heads = c.args.heads.now in
+    let heads = c.args.heads.now.list.items in
     let ready = is_ready_on b in
     let rest = c.loop-left.rest.now in
     let others = c.in-Some.others.now in
@@ -65,7 +65,7 @@ loop-left-preserved c =
 
 pub returns-in-Ok-clause-ok : goal.returns-in-Ok-clause-ok
 returns-in-Ok-clause-ok c =
-    let heads = c.args.heads.now in
+    let heads = c.args.heads.now.list.items in
     let ready = is_ready_on c.args.block in
     let left : List ℕ = passing ready heads c.loop-left.rest.now in
     let few : length left ≤ 0 = elim c.loop-left-test.branch [
@@ -77,5 +77,5 @@ returns-in-Ok-clause-ok c =
 pub returns-then-is_err-clause-refused : goal.returns-then-is_err-clause-refused
 returns-then-is_err-clause-refused c =
     let ends = c.in-Some.ensures in
-    let shorter = passing_shorter (is_ready_on c.args.block) c.args.heads.now c.loop-left.rest.now c.in-Some.others.now c.in-Some.listed c.loop-left.from_back ends.front ends.back (sym c.if-is_ready_at.ensures) in
+    let shorter = passing_shorter (is_ready_on c.args.block) c.args.heads.now.list.items c.loop-left.rest.now c.in-Some.others.now c.in-Some.listed c.loop-left.from_back ends.front ends.back (sym c.if-is_ready_at.ensures) in
     (found_some _ _ _ _ _ c.loop-left.invariant.found shorter, refl)

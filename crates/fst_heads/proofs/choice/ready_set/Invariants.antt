@@ -3,8 +3,8 @@ use Rattle.fst_heads.proofs.choice.ready_set.Given as goal
 
 abbrev pub invariant-loop-left : goal.invariant-loop-left
 invariant-loop-left l = record {
-  found : numbers_of l.front.items ++ (passing (is_ready_on l.block) l.heads l.rest ++ reverse (numbers_of l.back.items)) ≡ ready_on l.block (nodes_of l.heads);
-  few : length (passing (is_ready_on l.block) l.heads l.rest) ≤ l.left;
+  found : numbers_of l.front.items ++ (passing (is_ready_on l.block) l.heads.list.items l.rest ++ reverse (numbers_of l.back.items)) ≡ ready_on l.block (nodes_of l.heads.list.items);
+  few : length (passing (is_ready_on l.block) l.heads.list.items l.rest) ≤ l.left;
 }
 
 abbrev pub decreases-loop-left : goal.decreases-loop-left

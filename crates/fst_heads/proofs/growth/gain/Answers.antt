@@ -4,7 +4,7 @@ use Rattle.fst_heads.proofs.growth.gain.Goals as goal
 
 pub with-head-requires : goal.with-head-requires
 with-head-requires c =
-    let counted = holds_at c.args.heads.now.items c.args.gate c.in-Some.index c.index_mut-head.result.now c.deref.ensures.value c.in-Some.ensures.found c.index_mut-head.ensures.value c.requires.counted in
+    let counted = holds_at c.args.heads.now.list.items c.args.gate c.in-Some.index c.index_mut-head.result.now c.in-Some.ensures.found c.index_mut-head.ensures.value c.requires.counted in
     record { fits = counted.1; other = c.requires.fits; room = counted.0 }
 
 pub returns-in_ok-extend_from_slice-clause-ok : goal.returns-in_ok-extend_from_slice-clause-ok

@@ -5,7 +5,7 @@ use Rattle.fst_heads.proofs.growth.missing_names.Goals.{then-is_missing+in_ok-pu
 
 pub loop-name-preserved : goal.loop-name-preserved
 loop-name-preserved c =
-    let missing = IsMissing (patches_of c.args.heads.now) c.args.gate in
+    let missing = IsMissing (patches_of c.args.heads.now.list.items) c.args.gate in
     elim c.if-is_missing.branch [
       | then-is_missing+in_ok-put w ↦
           rw w.row-is
@@ -17,5 +17,5 @@ loop-name-preserved c =
 
 pub returns : goal.returns
 returns c =
-    missing_list (patches_of c.args.heads.now) c.args.gate (numbers_of c.args.names.now) c.loop-name.row.items
-    (gathers_all (IsMissing (patches_of c.args.heads.now) c.args.gate) c.args.names.now c.loop-name.name-index c.loop-name.row.items c.loop-name-test.false c.loop-name.invariant)
+    missing_list (patches_of c.args.heads.now.list.items) c.args.gate (numbers_of c.args.names.now) c.loop-name.row.items
+    (gathers_all (IsMissing (patches_of c.args.heads.now.list.items) c.args.gate) c.args.names.now c.loop-name.name-index c.loop-name.row.items c.loop-name-test.false c.loop-name.invariant)

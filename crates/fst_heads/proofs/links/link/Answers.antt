@@ -1,4 +1,4 @@
-use Rattle.fst_heads.proofs.{Basics.{◌≡◌, ◌∙◌, get_or, map, ap, subst, take, arith, rules}, Words.{Head, patch_of, HasIndex, node_of, nodes_of, at_number}}
+use Rattle.fst_heads.proofs.{Basics.{◌≡◌, ◌∙◌, get_or, map, ap, take, arith, rules}, Words.{Head, patch_of, node_of, nodes_of, at_number}}
 use Rattle.fst_heads.proofs.{AtNumber.{at_index, at_none}, Framed.still_below}
 use Rattle.fst_heads.proofs.Linking.{adds, rising_linked, room_first, room_left, room_fewer, link_none, link_more}
 use Rattle.fst_heads.proofs.links.link.Goals as goal
@@ -7,25 +7,22 @@ use Rattle.fst_heads.proofs.links.link.Goals.{in-Some, in_default}
 pub loop-other-init : goal.loop-other-init
 loop-other-init c = search (rules, link_none, room_first)
 
-pub index_of-requires : goal.index_of-requires
-index_of-requires c = rw c.deref.ensures.value (rising_linked c.loop-other.heads.items c.args.heads.now.items (take c.loop-other.other-index c.args.row.now) c.args.number c.loop-other.invariant.nodes c.requires.rising)
-
 pub loop-other-preserved : goal.loop-other-preserved
 loop-other-preserved c =
-    let heads = c.loop-other.heads.items in
+    let heads = c.loop-other.heads.list.items in
     let row = c.args.row.now in
     let i = c.loop-other.other-index in
     let n = c.args.number in
     let before = c.loop-other.invariant in
-    let more = link_more (nodes_of c.args.heads.now.items) row i n c.requires.once c.loop-other-test.true in
+    let more = link_more (nodes_of c.args.heads.now.list.items) row i n c.requires.once c.loop-other-test.true in
     elim c.match-index_of.branch [
       | in-Some w ↦
           let s = w.in-Some.index in
-          let index = subst (λ hs. HasIndex hs (get_or row i 0) s) c.deref.ensures.value w.in-Some.ensures.found in
+          let index = w.in-Some.ensures.found in
           let head = w.index_mut.result.now in
           let linked : Head = record head { dependants = w.push_reserved.new.self } in
           let node : node_of linked ≡ adds n (node_of (get_or heads s head)) = ap (λ ns. record { patch = patch_of head; sums = head.sums; pending = head.pending; dependants = ns; forgotten = head.forgotten }) w.push_reserved.ensures.items ∙ ap (λ h. adds n (node_of h)) w.index_mut.ensures.value in
-          let rising = rising_linked heads c.args.heads.now.items (take i row) n before.nodes c.requires.rising in
+          let rising = rising_linked heads c.args.heads.now.list.items (take i row) n before.nodes c.args.heads.now.rising in
           rw w.heads-is
           (record {
             nodes = at_index heads (get_or row i 0) s (adds n) linked head rising index node ∙ (ap (λ xs. map (at_number (get_or row i 0) (adds n)) xs) before.nodes ∙ more);

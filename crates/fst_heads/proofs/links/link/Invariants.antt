@@ -3,9 +3,9 @@ use Rattle.fst_heads.proofs.links.link.Given as goal
 
 abbrev pub invariant-loop-other : goal.invariant-loop-other
 invariant-loop-other l = record {
-  nodes : nodes_of l.heads.items ≡ map (linked_to (take l.other-index l.row) l.number) (nodes_of l.initial.heads.items);
-  room : HasRoomFrom l.heads.items l.row l.other-index;
-  below : (n : ℕ) → HasRoomBelow l.initial.heads.items n → HasRoomBelow l.heads.items n;
-  len : vec_len l.heads ≡ vec_len l.initial.heads;
-  capacity : vec_capacity l.heads ≡ vec_capacity l.initial.heads;
+  nodes : nodes_of l.heads.list.items ≡ map (linked_to (take l.other-index l.row) l.number) (nodes_of l.initial.heads.list.items);
+  room : HasRoomFrom l.heads.list.items l.row l.other-index;
+  below : (n : ℕ) → HasRoomBelow l.initial.heads.list.items n → HasRoomBelow l.heads.list.items n;
+  len : vec_len l.heads.list ≡ vec_len l.initial.heads.list;
+  capacity : vec_capacity l.heads.list ≡ vec_capacity l.initial.heads.list;
 }

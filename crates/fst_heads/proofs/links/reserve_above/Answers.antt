@@ -1,28 +1,25 @@
-use Rattle.fst_heads.proofs.{Basics.{◌≡◌, ◌∙◌, get_or, ap, subst, arith, common_steps}, Words.{Head, patch_of, HasIndex, node_of}}
+use Rattle.fst_heads.proofs.{Basics.{◌≡◌, ◌∙◌, get_or, ap, arith, common_steps}, Words.{Head, patch_of, node_of}}
 use Rattle.fst_heads.proofs.Linking.{rising_same, nodes_set, room_more, room_skip}
 use Rattle.fst_heads.proofs.links.reserve_above.Goals as goal
 use Rattle.fst_heads.proofs.links.reserve_above.Goals.{in-Some+in_ok-reserve, in_default}
 
-pub index_of-requires : goal.index_of-requires
-index_of-requires c = rw c.deref.ensures.value (rising_same c.loop-number.heads.items c.args.heads.now.items c.loop-number.invariant.nodes c.requires)
-
 pub loop-number-preserved : goal.loop-number-preserved
 loop-number-preserved c =
-    let heads = c.loop-number.heads.items in
+    let heads = c.loop-number.heads.list.items in
     let row = c.args.row.now in
     let i = c.loop-number.number-index in
     let before = c.loop-number.invariant in
     elim c.match-index_of.branch [
       | in-Some+in_ok-reserve w ↦
           let s = w.in-Some.index in
-          let index = subst (λ hs. HasIndex hs (get_or row i 0) s) c.deref.ensures.value w.in-Some.ensures.found in
+          let index = w.in-Some.ensures.found in
           let head = w.index_mut.result.now in
           let room : Head = record head { dependants = w.reserve.new.self } in
           let node : node_of room ≡ node_of (get_or heads s head) = ap (λ ns. record { patch = patch_of head; sums = head.sums; pending = head.pending; dependants = ns; forgotten = head.forgotten }) w.in_ok-reserve.ensures.items ∙ ap node_of w.index_mut.ensures.value in
           rw w.heads-is
           (record {
             nodes = nodes_set heads s room head index.0 node ∙ before.nodes;
-            room = room_more heads row i s room (rising_same heads c.args.heads.now.items before.nodes c.requires) index w.in_ok-reserve.ensures.ok before.room;
+            room = room_more heads row i s room (rising_same heads c.args.heads.now.list.items before.nodes c.args.heads.now.rising) index w.in_ok-reserve.ensures.ok before.room;
             len = before.len;
             capacity = before.capacity;
           })

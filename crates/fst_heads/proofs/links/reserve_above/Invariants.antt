@@ -3,8 +3,8 @@ use Rattle.fst_heads.proofs.links.reserve_above.Given as goal
 
 abbrev pub invariant-loop-number : goal.invariant-loop-number
 invariant-loop-number l = record {
-  nodes : nodes_of l.heads.items ≡ nodes_of l.initial.heads.items;
-  room : HasRoomUpTo l.heads.items l.row l.number-index;
-  len : vec_len l.heads ≡ vec_len l.initial.heads;
-  capacity : vec_capacity l.heads ≡ vec_capacity l.initial.heads;
+  nodes : nodes_of l.heads.list.items ≡ nodes_of l.initial.heads.list.items;
+  room : HasRoomUpTo l.heads.list.items l.row l.number-index;
+  len : vec_len l.heads.list ≡ vec_len l.initial.heads.list;
+  capacity : vec_capacity l.heads.list ≡ vec_capacity l.initial.heads.list;
 }

@@ -1,4 +1,4 @@
-use Rattle.fst_heads.proofs.{Basics.{subst, arith, common_steps}, Words.HasIndex, Framed.below_set, Linking.nodes_set}
+use Rattle.fst_heads.proofs.{Basics.{arith, common_steps}, Framed.below_set, Linking.nodes_set}
 use Rattle.fst_heads.proofs.links.reserve_below.Goals as goal
 
 pub returns-in_ok-reserve-clause-nodes : goal.returns-in_ok-reserve-clause-nodes
@@ -6,9 +6,9 @@ returns-in_ok-reserve-clause-nodes c = grind (arith, nodes_set)
 
 pub returns-in_ok-reserve-clause-room : goal.returns-in_ok-reserve-clause-room
 returns-in_ok-reserve-clause-room c =
-    let heads = c.args.heads.now.items in
-    let index = subst (λ hs. HasIndex hs c.args.number c.in-Some.index) c.deref.ensures.value c.in-Some.ensures.found in
-    below_set heads c.args.number c.in-Some.index _ c.requires index c.in_ok-reserve.ensures.ok
+    let heads = c.args.heads.now.list.items in
+    let index = c.in-Some.ensures.found in
+    below_set heads c.args.number c.in-Some.index _ c.args.heads.now.rising index c.in_ok-reserve.ensures.ok
 
 pub returns-in_default : goal.returns-in_default
 returns-in_default c = grind (arith, common_steps)

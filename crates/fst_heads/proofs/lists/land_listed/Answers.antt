@@ -5,16 +5,16 @@ use Rattle.fst_heads.proofs.lists.land_listed.Goals as goal
 use Rattle.fst_heads.proofs.lists.land_listed.Goals.{then-land_number+then-from_back, then-land_number+else-from_back, else-land_number}
 
 pub make_places-requires-clause-room : goal.make_places-requires-clause-room
-make_places-requires-clause-room c = omega (arith, flying_few c.args.block c.args.heads.now.items, c.requires.flying, c.requires.room)
+make_places-requires-clause-room c = omega (arith, flying_few c.args.block c.args.heads.now.list.items, c.requires.flying, c.requires.room)
 
 pub loop-low-init : goal.loop-low-init
 loop-low-init c =
-    let heads = c.args.heads.now.items in
+    let heads = c.args.heads.now.list.items in
     let b = c.args.block in
     let queue = c.make_places.new.queue.items in
     record {
-      landing = rw c.requires.listed (landing_none b heads c.requires.rising);
-      placed = rw (drop_all c.args.flying queue (omega (arith, c.make_places.ensures.len))) (append-nil (passing (flies b) heads c.args.list.now) ∙ flying_passes b heads c.args.list.now c.requires.rising c.requires.listed);
+      landing = rw c.requires.listed (landing_none b heads c.args.heads.now.rising);
+      placed = rw (drop_all c.args.flying queue (omega (arith, c.make_places.ensures.len))) (append-nil (passing (flies b) heads c.args.list.now) ∙ flying_passes b heads c.args.list.now c.args.heads.now.rising c.requires.listed);
       long = c.make_places.ensures.len;
       ends = (omega arith, omega arith);
       capacity = refl;
@@ -23,8 +23,8 @@ loop-low-init c =
 pub loop-low-preserved : goal.loop-low-preserved
 loop-low-preserved c =
     let b = c.args.block in
-    let start = c.args.heads.now.items in
-    let heads = c.loop-low.heads.items in
+    let start = c.args.heads.now.list.items in
+    let heads = c.loop-low.heads.list.items in
     let rest = c.loop-low.rest.now in
     let others = c.in-Some.others.now in
     let n = c.in-Some.listed.number in
@@ -36,7 +36,7 @@ loop-low-preserved c =
       | inr e ↦ taken_front left ns n (ap (λ ls. map (λ e. e.number) (entries_of ls)) (c.in-Some.ensures.front e)) I.landing.rises
     ] in
     let passes : passes_at (flies b) (nodes_of start) n ≡ c.land_number.result = sym (c.land_number.ensures.flew ∙ landing_flies b start heads left ns n I.landing t) in
-    let landing = landing_step b start heads left ns n I.landing t c.land_number.new.heads.items c.land_number.ensures.nodes in
+    let landing = landing_step b start heads left ns n I.landing t c.land_number.new.heads.list.items c.land_number.ensures.nodes in
     let ps = passing (flies b) start others in
     let queue = c.loop-low.queue.items in
     let whole = flying_on b (patches_of start) in
@@ -79,9 +79,9 @@ loop-low-preserved c =
 pub returns-after-loop-low-clause-nodes : goal.returns-after-loop-low-clause-nodes
 returns-after-loop-low-clause-nodes c =
     let b = c.args.block in
-    let start = c.args.heads.now.items in
+    let start = c.args.heads.now.list.items in
     let queue = c.loop-low.queue.items in
     let I = c.loop-low.invariant in
     let inside : c.loop-low.high ≤ length queue = omega (arith, I.long, I.ends.1) in
     let all = placed_all queue _ (flying_on b (patches_of start)) c.loop-low.low c.loop-low.high inside I.placed I.ends.0 (c.requires.flying ∙ sym I.long) (inr c.loop-low-test.false) in
-    landing_all b start c.loop-low.heads.items _ I.landing all.0
+    landing_all b start c.loop-low.heads.list.items _ I.landing all.0

@@ -3,8 +3,8 @@ use Rattle.fst_heads.proofs.lists.land_listed.Given as goal
 
 abbrev pub invariant-loop-low : goal.invariant-loop-low
 invariant-loop-low l = record {
-  landing : Landing l.block l.initial.heads.items l.heads.items (map (λ e. e.number) (entries_of l.rest));
-  placed : take l.low l.queue.items ++ (passing (flies l.block) l.initial.heads.items l.rest ++ drop l.high l.queue.items) ≡ flying_on l.block (patches_of l.initial.heads.items);
+  landing : Landing l.block l.initial.heads.list.items l.heads.list.items (map (λ e. e.number) (entries_of l.rest));
+  placed : take l.low l.queue.items ++ (passing (flies l.block) l.initial.heads.list.items l.rest ++ drop l.high l.queue.items) ≡ flying_on l.block (patches_of l.initial.heads.list.items);
   long : length l.queue.items ≡ l.flying;
   ends : (l.low ≤ l.high) × (l.high ≤ l.flying);
   capacity : vec_capacity l.queue ≡ vec_capacity l.initial.queue;

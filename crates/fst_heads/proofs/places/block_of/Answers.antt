@@ -9,19 +9,19 @@ block_at heads p n s d rising index there numbered =
 
 pub returns-in_err-index : goal.returns-in_err-index
 returns-in_err-index c p there numbered =
-    let t = index_in c.args.heads.now p there in
-    absurd (none_index c.args.heads.now c.args.number t.0 c.in_err-index.ensures.none (subst (λ n. HasIndex c.args.heads.now n t.0) numbered (patch_index c.args.heads.now p t.0 t.1 t.2)))
+    let t = index_in c.args.heads.now.list.items p there in
+    absurd (none_index c.args.heads.now.list.items c.args.number t.0 c.in_err-index.ensures.none (subst (λ n. HasIndex c.args.heads.now.list.items n t.0) numbered (patch_index c.args.heads.now.list.items p t.0 t.1 t.2)))
 
 pub returns-in-Change : goal.returns-in-Change
 returns-in-Change c p there numbered =
-    ap Some c.from.ensures ∙ (sym (ap (λ k. block_of_kind (kind_of k)) c.in-Change.is) ∙ block_at c.args.heads.now p c.args.number c.in_ok-index.index _ c.requires c.in_ok-index.ensures.found there numbered)
+    ap Some c.from.ensures ∙ (sym (ap (λ k. block_of_kind (kind_of k)) c.in-Change.is) ∙ (ap (λ h. block_of_kind (kind_of h.kind)) c.index.ensures ∙ block_at c.args.heads.now.list.items p c.args.number c.in_ok-index.index _ c.args.heads.now.rising c.in_ok-index.ensures.found there numbered))
 
 pub returns-in-Empty : goal.returns-in-Empty
 returns-in-Empty c p there numbered =
     elim c.in-Empty.is [
-      | inl e ↦ sym (ap (λ k. block_of_kind (kind_of k)) e) ∙ block_at c.args.heads.now p c.args.number c.in_ok-index.index _ c.requires c.in_ok-index.ensures.found there numbered
+      | inl e ↦ sym (ap (λ k. block_of_kind (kind_of k)) e) ∙ (ap (λ h. block_of_kind (kind_of h.kind)) c.index.ensures ∙ block_at c.args.heads.now.list.items p c.args.number c.in_ok-index.index _ c.args.heads.now.rising c.in_ok-index.ensures.found there numbered)
       | inr o ↦ elim o [
-        | inl e ↦ sym (ap (λ k. block_of_kind (kind_of k)) e) ∙ block_at c.args.heads.now p c.args.number c.in_ok-index.index _ c.requires c.in_ok-index.ensures.found there numbered
-        | inr e ↦ sym (ap (λ k. block_of_kind (kind_of k)) e) ∙ block_at c.args.heads.now p c.args.number c.in_ok-index.index _ c.requires c.in_ok-index.ensures.found there numbered
+        | inl e ↦ sym (ap (λ k. block_of_kind (kind_of k)) e) ∙ (ap (λ h. block_of_kind (kind_of h.kind)) c.index.ensures ∙ block_at c.args.heads.now.list.items p c.args.number c.in_ok-index.index _ c.args.heads.now.rising c.in_ok-index.ensures.found there numbered)
+        | inr e ↦ sym (ap (λ k. block_of_kind (kind_of k)) e) ∙ (ap (λ h. block_of_kind (kind_of h.kind)) c.index.ensures ∙ block_at c.args.heads.now.list.items p c.args.number c.in_ok-index.index _ c.args.heads.now.rising c.in_ok-index.ensures.found there numbered)
       ]
     ]

@@ -4,11 +4,11 @@ use Rattle.fst_heads.proofs.row.dependencies_of.Goals as goal
 use Rattle.fst_heads.proofs.row.dependencies_of.Goals.{then-shares+in_ok-put, else-shares}
 
 pub loop-listed-init : goal.loop-listed-init
-loop-listed-init c = touches_none (patches_of c.args.heads.now) _ c.args.block c.args.span.at c.args.span.len c.in_ok-row.row.items c.requires.listed c.in_ok-row.ensures.rising
+loop-listed-init c = touches_none (patches_of c.args.heads.now.list.items) _ c.args.block c.args.span.at c.args.span.len c.in_ok-row.row.items c.requires.listed c.in_ok-row.ensures.rising
 
 pub loop-listed-preserved : goal.loop-listed-preserved
 loop-listed-preserved c =
-    let heads = patches_of c.args.heads.now in
+    let heads = patches_of c.args.heads.now.list.items in
     let list = c.args.list.now in
     let i = c.loop-listed.listed-index in
     let none : Listed = record { number = 0; span = record { at = 0; len = 0 } } in

@@ -4,7 +4,7 @@ use Rattle.fst_heads.proofs.row.live_named.Goals.{then-is_live_number+in_ok-put,
 
 pub loop-name-preserved : goal.loop-name-preserved
 loop-name-preserved c =
-    let live = IsLiveNumber (patches_of c.args.heads.now) in
+    let live = IsLiveNumber (patches_of c.args.heads.now.list.items) in
     elim c.if-is_live_number.branch [
       | then-is_live_number+in_ok-put w ↦
           rw w.row-is
@@ -15,4 +15,4 @@ loop-name-preserved c =
     ]
 
 pub returns : goal.returns
-returns c = gathers_all (IsLiveNumber (patches_of c.args.heads.now)) c.args.names.now c.loop-name.name-index c.loop-name.row.items c.loop-name-test.false c.loop-name.invariant
+returns c = gathers_all (IsLiveNumber (patches_of c.args.heads.now.list.items)) c.args.names.now c.loop-name.name-index c.loop-name.row.items c.loop-name-test.false c.loop-name.invariant

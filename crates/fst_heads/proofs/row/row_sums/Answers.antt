@@ -3,7 +3,7 @@ use Rattle.fst_heads.proofs.row.row_sums.Goals as goal
 
 pub add-requires-clause-room : goal.add-requires-clause-room
 add-requires-clause-room c =
-    let told = pending_in (nodes_of c.args.heads.now) in
+    let told = pending_in (nodes_of c.args.heads.now.list.items) in
     let row = c.args.row.now in
     let i = c.loop-number.number-index in
     let few = count_more told row i 0 c.loop-number-test.true in
@@ -12,7 +12,7 @@ add-requires-clause-room c =
 
 pub loop-number-preserved : goal.loop-number-preserved
 loop-number-preserved c =
-    let told = pending_in (nodes_of c.args.heads.now) in
+    let told = pending_in (nodes_of c.args.heads.now.list.items) in
     let row = c.args.row.now in
     let i = c.loop-number.number-index in (
       c.add.ensures.plus

@@ -2,4 +2,4 @@ use Rattle.fst_heads.proofs.{Basics.{◌≡◌, take}, Words.{nodes_of, pending_
 use Rattle.fst_heads.proofs.row.row_sums.Given as goal
 
 abbrev pub invariant-loop-number : goal.invariant-loop-number
-invariant-loop-number l = (l.sums ≡ sums_of (pending_in (nodes_of l.heads)) (take l.number-index l.row)) × Fits l.sums
+invariant-loop-number l = (l.sums ≡ sums_of (pending_in (nodes_of l.heads.list.items)) (take l.number-index l.row)) × Fits l.sums

@@ -4,7 +4,7 @@ use Rattle.fst_heads.proofs.sparse.gain_touched.Goals.{then-run-last+then-is_tou
 
 pub loop-run-preserved : goal.loop-run-preserved
 loop-run-preserved c =
-    let heads = patches_of c.args.heads.now in
+    let heads = patches_of c.args.heads.now.list.items in
     let ns = numbers_in c.args.runs.now in
     let b = c.args.block in
     let at = c.args.span.at in
@@ -27,4 +27,4 @@ loop-run-preserved c =
 pub returns : goal.returns
 returns c =
     let long = length-map c.args.runs.now (λ (r : Run). r.number) in
-    gains_all (patches_of c.args.heads.now) (numbers_in c.args.runs.now) c.args.block c.args.span.at c.args.span.len c.loop-run.run-index c.loop-run.last c.args.row.now.items c.loop-run.row.items c.loop-run.invariant (omega (arith, long, c.loop-run-test.false))
+    gains_all (patches_of c.args.heads.now.list.items) (numbers_in c.args.runs.now) c.args.block c.args.span.at c.args.span.len c.loop-run.run-index c.loop-run.last c.args.row.now.items c.loop-run.row.items c.loop-run.invariant (omega (arith, long, c.loop-run-test.false))

@@ -13,5 +13,5 @@ pub returns : goal.returns
 returns c =
     let w = c.args.wanted.now in
     let some = c.if-span-eq0.false in
-    newest_are_sparse (patches_of c.args.heads.now) (numbers_of w.names.now) w.block w.span.at w.span.len c.args.cover.now c.requires.covered (numbers_in c.over.result.now) c.in_ok-row.row.items c.gain_touched.new.row.items
+    newest_are_sparse (patches_of c.args.heads.now.list.items) (numbers_of w.names.now) w.block w.span.at w.span.len c.args.cover.now c.requires.covered (numbers_in c.over.result.now) c.in_ok-row.row.items c.gain_touched.new.row.items
     (omega arith) (sym c.has_untold.ensures ∙ c.if-has_untold.false) c.in_ok-row.ensures c.over.ensures c.in_ok-gain_touched.ensures

@@ -14,13 +14,13 @@ use Rattle.fst_heads.proofs.standing.record_at.Goals.{in-Change+in-Memory+then-i
 pub pending_now-new-requires : goal.pending_now-new-requires
 pending_now-new-requires c =
     let h = c.index_mut-head.result.now in
-    subst (λ (x : Node). Fits x.sums) (node_at c.args.heads.now.items c.args.index h (node_of h) (omega (arith, c.requires.index, c.args.heads.now.ok.0)) c.index_mut-head.ensures.value) (c.requires.stale (node_of h)).fits
+    subst (λ (x : Node). Fits x.sums) (node_at c.args.heads.now.list.items c.args.index h (node_of h) (omega (arith, c.requires.index, c.args.heads.now.list.ok.0)) c.index_mut-head.ensures.value) (c.requires.stale (node_of h)).fits
 
 pub index_mut-requires : goal.index_mut-requires
 index_mut-requires c =
     let h = c.index_mut-head.result.now in
     c.requires.inside (node_of h) c.in-Change.block c.in-Change.field-2.at c.in-Change.field-2.len c.in-Change.field-0
-    (node_in c.args.heads.now.items c.args.index h (omega (arith, c.requires.index, c.args.heads.now.ok.0)) c.index_mut-head.ensures.value) (ap kind_of c.in-Change.is)
+    (node_in c.args.heads.now.list.items c.args.index h (omega (arith, c.requires.index, c.args.heads.now.list.ok.0)) c.index_mut-head.ensures.value) (ap kind_of c.in-Change.is)
 
 -- the facts of the index at the head that stands there
 index_sinks : (heads : List Head) (s : ℕ) (h : Head) → get_or (nodes_of heads) s (node_of h) ≡ node_of h → ((d : Node) → Sinks (get_or (nodes_of heads) s d).pending (now (get_or (nodes_of heads) s d))) → Sinks h.pending (now (node_of h))
@@ -47,10 +47,10 @@ not_block_now h p b e no_it = ap (λ q. is_pending q (pending.Block b)) (sym e) 
 
 pub release-requires : goal.release-requires
 release-requires c =
-    let heads = c.args.heads.now.items in
+    let heads = c.args.heads.now.list.items in
     let s = c.args.index in
     let h = c.index_mut-head.result.now in
-    let lt : s < length heads = omega (arith, c.requires.index, c.args.heads.now.ok.0) in
+    let lt : s < length heads = omega (arith, c.requires.index, c.args.heads.now.list.ok.0) in
     let e = c.index_mut-head.ensures.value in
     let at = node_at heads s h (node_of h) lt e in
     let inside = c.requires.inside (node_of h) c.in-Change.block c.in-Change.field-2.at c.in-Change.field-2.len c.in-Change.field-0 (node_in heads s h lt e) (ap kind_of c.in-Change.is) in
@@ -59,7 +59,7 @@ release-requires c =
     (index_sinks heads s h at (λ d. (c.requires.stale d).sinks)) (index_stale heads s h at (λ d. (c.requires.stale d).stale)) inside c.index_mut.result.now c.index_mut.ensures.value
     (is_block_now h c.pending_now-new.result c.in-Change.block c.pending_now-new.ensures (sym c.is_pending.ensures ∙ c.if-is_pending.true)) in
     record {
-      ready = omega (arith, few, c.args.heads.now.ok.0, c.args.heads.now.ok.1, c.args.heads.now.small);
+      ready = omega (arith, few, c.args.heads.now.list.ok.0, c.args.heads.now.list.ok.1, c.args.heads.now.list.small);
       held = grind (arith, common_steps, some_held, index_sinks, index_stale);
     }
 
@@ -68,10 +68,10 @@ returns-clause-nodes c d = search (rules, node_at, index_here, at_index)
 
 pub returns-clause-standing : goal.returns-clause-standing
 returns-clause-standing c =
-    let heads = c.args.heads.now.items in
+    let heads = c.args.heads.now.list.items in
     let s = c.args.index in
     let h = c.index_mut-head.result.now in
-    let lt : s < length heads = omega (arith, c.requires.index, c.args.heads.now.ok.0) in
+    let lt : s < length heads = omega (arith, c.requires.index, c.args.heads.now.list.ok.0) in
     let e = c.index_mut-head.ensures.value in
     let at = node_at heads s h (node_of h) lt e in
     let after : Head = record h { pending = c.pending_now-new.result } in

@@ -6,9 +6,9 @@ use Rattle.fst_levels.proofs.ancestors.ancestry_over.Goals as goal
 
 pub returns-in_default : goal.returns-in_default
 returns-in_default c =
-    rw (c.no_ancestry.ensures) (none_goes_under (patches_of c.args.heads.now) (over_zero (patches_of c.args.heads.now) (jump_of c.args.levels.now.ranks) c.requires.jumps) c.args.number c.args.row.now c.requires.given)
+    rw (c.no_ancestry.ensures) (none_goes_under (patches_of c.args.heads.now.list.items) (over_zero (patches_of c.args.heads.now.list.items) (jump_of c.args.levels.now.ranks) c.requires.jumps) c.args.number c.args.row.now c.requires.given)
 
 pub returns : goal.returns
 returns c =
-    goes_under (patches_of c.args.heads.now) c.args.levels.now.ranks c.requires.aligned c.requires.jumps c.args.number c.args.row.now c.in-Some.parent c.in-Some.ensures.named c.in-Some.ensures.older
+    goes_under (patches_of c.args.heads.now.list.items) c.args.levels.now.ranks c.requires.aligned c.requires.jumps c.args.number c.args.row.now c.in-Some.parent c.in-Some.ensures.named c.in-Some.ensures.older
     (record { parent = c.in-Some.parent; jump = c.jump_under.result; depth = c.saturating_add.result }) refl c.jump_under.ensures

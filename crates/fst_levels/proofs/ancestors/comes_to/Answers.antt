@@ -15,12 +15,12 @@ loop-init c =
     }
 
 pub returns-then-at-to : goal.returns-then-at-to
-returns-then-at-to c told = subst (LeadsTo (patches_of c.args.sight.now.heads.now) c.args.from) c.if-at-to.true c.loop.invariant.leads
+returns-then-at-to c told = subst (LeadsTo (patches_of c.args.sight.now.heads.now.list.items) c.args.from) c.if-at-to.true c.loop.invariant.leads
 
 pub loop-preserved : goal.loop-preserved
 loop-preserved c =
     let sight = c.args.sight.now in
-    let patches = patches_of sight.heads.now in
+    let patches = patches_of sight.heads.now.list.items in
     let ranks = sight.levels.now.ranks in
     let L = c.requires.sees.leveled in
     let next = c.toward-at.ensures in

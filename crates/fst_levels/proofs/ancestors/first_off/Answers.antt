@@ -6,7 +6,7 @@ pub loop-preserved : goal.loop-preserved
 loop-preserved c =
     let sight = c.args.sight.now in
     let L = c.requires.sees.leveled in
-    leads_further (patches_of sight.heads.now) sight.levels.now.ranks L.aligned (λ r. r.ancestry.parent) L.parents c.args.number c.loop.at c.rank_of-at.result.ancestry.parent c.loop.invariant c.rank_of-at.ensures.parent
+    leads_further (patches_of sight.heads.now.list.items) sight.levels.now.ranks L.aligned (λ r. r.ancestry.parent) L.parents c.args.number c.loop.at c.rank_of-at.result.ancestry.parent c.loop.invariant c.rank_of-at.ensures.parent
 
 pub returns-in-Some-clause-under : goal.returns-in-Some-clause-under
-returns-in-Some-clause-under c = leads_on (patches_of c.args.sight.now.heads.now) c.args.number c.loop.at c.in-Some.off c.loop.invariant c.in-Some.ensures.under
+returns-in-Some-clause-under c = leads_on (patches_of c.args.sight.now.heads.now.list.items) c.args.number c.loop.at c.in-Some.off c.loop.invariant c.in-Some.ensures.under

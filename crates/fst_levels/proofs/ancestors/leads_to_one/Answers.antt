@@ -13,4 +13,4 @@ returns-then-comes_to c =
     let number = λ (l : Listed). l.number in
     let inside = c.loop-change-test.true in
     let there = subst (Contains (map number list)) (get_or-map number list i none 0 inside) (Contains-get_or (map number list) i 0 (omega (arith, inside, length-map list number))) in
-    (there, leads_on (patches_of c.args.sight.now.heads.now) c.args.number c.in-Some.to (get_or list i none).number (c.comes_to.ensures c.if-comes_to.true) c.in-Some.ensures)
+    (there, leads_on (patches_of c.args.sight.now.heads.now.list.items) c.args.number c.in-Some.to (get_or list i none).number (c.comes_to.ensures c.if-comes_to.true) c.in-Some.ensures)

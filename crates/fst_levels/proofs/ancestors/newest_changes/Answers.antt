@@ -7,7 +7,7 @@ use Rattle.fst_levels.proofs.ancestors.newest_changes.Goals as goal
 
 pub returns : goal.returns
 returns c n there =
-    let patches = patches_of c.args.sight.now.heads.now in
+    let patches = patches_of c.args.sight.now.heads.now.list.items in
     let b = c.args.block in
     let list = c.as_slice-list.result.now in
     let from = c.saturating_sub.result in

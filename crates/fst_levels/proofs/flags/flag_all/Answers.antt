@@ -1,33 +1,24 @@
-use Rattle.fst_heads.proofs.Basics.{◌≡◌, ◌∙◌, ◌∷◌, [], get_or, map, take, take_more, ap, subst, sym, refl}
-use Rattle.fst_heads.proofs.{AtNumber.patches_in_nodes, Flagged.{flagged_more, flagged_none, flagged_start, patches_flagged, rising_flagged}}
-use Rattle.fst_heads.proofs.Words.{HasNone, HasIndex, patches_of, nodes_of, flags}
+use Rattle.fst_heads.proofs.Basics.{◌≡◌, ◌∙◌, ◌∷◌, [], get_or, map, take, take_more, ap, sym, refl}
+use Rattle.fst_heads.proofs.{AtNumber.patches_in_nodes, Flagged.{flagged_more, flagged_none, flagged_start, patches_flagged}}
+use Rattle.fst_heads.proofs.Words.{patches_of, nodes_of, flags}
 use Rattle.fst_levels.proofs.Seen.{seen}
 use Rattle.fst_levels.proofs.flags.flag_all.Goals.{in-Some, in_default}
 use Rattle.fst_levels.proofs.flags.flag_all.Goals as goal
 
 pub loop-number-init : goal.loop-number-init
-loop-number-init c = record { nodes = flagged_start (nodes_of c.args.heads.now.items); places = refl }
+loop-number-init c = record { nodes = flagged_start (nodes_of c.args.heads.now.list.items); places = refl }
 
 pub find-requires : goal.find-requires
 find-requires c =
-    let heads = c.loop-number.heads.items in
-    let old = c.args.heads.now.items in
+    let heads = c.loop-number.heads.list.items in
+    let old = c.args.heads.now.list.items in
     let ns = take c.loop-number.number-index c.args.numbers.now in
     let same : patches_of heads ≡ patches_of old = seen heads _ c.loop-number.invariant.nodes ∙ (patches_flagged (nodes_of old) ns ∙ patches_in_nodes old) in
-    rw c.deref.ensures.value (record {
-      rising = rising_flagged heads old ns c.loop-number.invariant.nodes c.requires.rising;
-      aligned = rw same c.requires.aligned;
-    })
-
-pub flag_at-requires : goal.flag_at-requires
-flag_at-requires c = record {
-  rising = rising_flagged c.loop-number.heads.items c.args.heads.now.items (take c.loop-number.number-index c.args.numbers.now) c.loop-number.invariant.nodes c.requires.rising;
-  index = subst (λ hs. HasIndex hs (get_or c.args.numbers.now c.loop-number.number-index 0) c.in-Some.index) c.deref.ensures.value c.in-Some.ensures.found;
-}
+    record { aligned = rw same c.requires.aligned }
 
 pub loop-number-preserved : goal.loop-number-preserved
 loop-number-preserved c =
-    let old = nodes_of c.args.heads.now.items in
+    let old = nodes_of c.args.heads.now.list.items in
     let row = c.args.numbers.now in
     let i = c.loop-number.number-index in
     let n = get_or row i 0 in
@@ -36,7 +27,7 @@ loop-number-preserved c =
     elim c.match-find.branch [
       | in-Some w ↦ rw w.heads-is (record { nodes = w.flag_at.ensures.nodes ∙ turn; places = w.flag_at.ensures.places ∙ c.loop-number.invariant.places })
       | in_default w ↦ rw w.heads-is (record {
-        nodes = flagged_none c.loop-number.heads.items n (subst (λ hs. HasNone hs n) c.deref.ensures.value w.in_default.ensures.none) ∙ turn;
+        nodes = flagged_none c.loop-number.heads.list.items n (w.in_default.ensures.none) ∙ turn;
         places = c.loop-number.invariant.places;
       })
     ]

@@ -6,15 +6,15 @@ use Rattle.fst_levels.proofs.needs.is_stood_for.Goals as goal
 
 pub returns-then-of-block : goal.returns-then-of-block
 returns-then-of-block c e =
-    let heads = c.args.heads.now in
+    let heads = c.args.heads.now.list.items in
     let of = c.in-Change.of in
-    let hard = hard_at_index heads c.requires c.args.number c.in-Some.index c.in-Some.ensures.found c.index-heads-index.result c.index-heads-index.is of (sym c.is_hard_in.ensures ∙ c.if-not-is_hard_in.false) in
+    let hard = hard_at_index heads c.args.heads.now.rising c.args.number c.in-Some.index c.in-Some.ensures.found c.index-head.result.now c.index-head.ensures of (sym c.is_hard_in.ensures ∙ c.if-not-is_hard_in.false) in
     record { at = place.Memory; block = of; hard = hard; by = inl c.if-of-block.true }
 
 pub returns-else-of-block : goal.returns-else-of-block
 returns-else-of-block c e =
-    let heads = c.args.heads.now in
+    let heads = c.args.heads.now.list.items in
     let of = c.in-Change.of in
     let row = c.has_hard.ensures e in
-    let hard = hard_at_index heads c.requires c.args.number c.in-Some.index c.in-Some.ensures.found c.index-heads-index.result c.index-heads-index.is of (sym c.is_hard_in.ensures ∙ c.if-not-is_hard_in.false) in
+    let hard = hard_at_index heads c.args.heads.now.rising c.args.number c.in-Some.index c.in-Some.ensures.found c.index-head.result.now c.index-head.ensures of (sym c.is_hard_in.ensures ∙ c.if-not-is_hard_in.false) in
     record { at = place.Memory; block = of; hard = hard; by = inr (row.0, row.1, hard_at (patches_of heads) of row.0 row.2) }

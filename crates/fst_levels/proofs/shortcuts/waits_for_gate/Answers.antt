@@ -7,9 +7,9 @@ use Rattle.fst_levels.proofs.shortcuts.waits_for_gate.Goals as goal
 
 pub returns : goal.returns
 returns c =
-    let heads = c.args.sight.now.heads.now in
+    let heads = c.args.sight.now.heads.now.list.items in
     let row = c.args.row.now in
     let said = sym c.row_pending.ensures in (
-      λ held. gate_under heads (length c.args.sight.now.lists.now) c.requires.rising c.requires.acyclic c.requires.disk c.requires.settled row (said ∙ pending_same c.row_pending.result pending.Held (sym c.is_pending.ensures ∙ held)),
-      λ under. c.is_pending.ensures ∙ ap (λ p. is_pending p pending.Held) (sym said ∙ under_gate heads (length c.args.sight.now.lists.now) c.requires.rising c.requires.acyclic c.requires.disk c.requires.settled row under),
+      λ held. gate_under heads (length c.args.sight.now.lists.now) c.args.sight.now.heads.now.rising c.requires.acyclic c.requires.disk c.requires.settled row (said ∙ pending_same c.row_pending.result pending.Held (sym c.is_pending.ensures ∙ held)),
+      λ under. c.is_pending.ensures ∙ ap (λ p. is_pending p pending.Held) (sym said ∙ under_gate heads (length c.args.sight.now.lists.now) c.args.sight.now.heads.now.rising c.requires.acyclic c.requires.disk c.requires.settled row under),
     )

@@ -10,10 +10,10 @@ loop-number-preserved c n k =
     let at = c.loop-number.number-index in
     elim (Contains-push_cases (take at row) (get_or row at 0) n (subst (λ ns. Contains ns n) (take_more row at 0 c.loop-number-test.true) k)) [
       | inl old ↦ c.loop-number.invariant n old
-      | inr new ↦ subst (λ m. LeadsNowhere (patches_of c.args.sight.now.heads.now) c.args.block (m ∷ [])) new (c.waits_for_own.ensures c.if-not-waits_for_own.false)
+      | inr new ↦ subst (λ m. LeadsNowhere (patches_of c.args.sight.now.heads.now.list.items) c.args.block (m ∷ [])) new (c.waits_for_own.ensures c.if-not-waits_for_own.false)
     ]
 
 pub returns : goal.returns
 returns c yes_it =
     let row = c.args.row.now in
-    nowhere_each (patches_of c.args.sight.now.heads.now) c.args.block row (λ n k. c.loop-number.invariant n (subst (λ ns. Contains ns n) (sym (take_all c.loop-number.number-index row (omega (arith, c.loop-number-test.false)))) k))
+    nowhere_each (patches_of c.args.sight.now.heads.now.list.items) c.args.block row (λ n k. c.loop-number.invariant n (subst (λ ns. Contains ns n) (sym (take_all c.loop-number.number-index row (omega (arith, c.loop-number-test.false)))) k))

@@ -5,12 +5,12 @@ use Rattle.fst_levels.proofs.sink.sink_over.Given as goal
 
 abbrev pub invariant-loop-at : goal.invariant-loop-at
 invariant-loop-at l = record {
-  leveled : IsLeveled (patches_of l.heads) (length l.initial.levels.floors) l.levels;
+  leveled : IsLeveled (patches_of l.heads.list.items) (length l.initial.levels.floors) l.levels;
   ranks : length l.levels.ranks ≡ length l.initial.levels.ranks;
   places : l.levels.room ≡ l.initial.levels.room;
-  long : length l.walk.marks ≡ length l.heads;
+  long : length l.walk.marks ≡ length l.heads.list.items;
   room : l.walk.room ≡ l.initial.walk.room;
 }
 
 abbrev pub decreases-loop-at : goal.decreases-loop-at
-decreases-loop-at l = length l.heads - l.at
+decreases-loop-at l = length l.heads.list.items - l.at

@@ -8,7 +8,7 @@ use Rattle.fst_levels.proofs.under_hard.is_known_under.Goals as goal
 
 pub returns-in-Some : goal.returns-in-Some
 returns-in-Some c told =
-    let heads = c.args.sight.now.heads.now in
+    let heads = c.args.sight.now.heads.now.list.items in
     let patches = patches_of heads in
     let over = hard_over_of c.args.sight.now.levels.now.ranks in
     let b = c.args.block in

@@ -13,15 +13,15 @@ said : (heads : List Head) (s b : ℕ) (h : Head) (told : Bool) → h ≡ get_or
 said heads s b h told is tells = subst (λ (x : Head). told ≡ (is_change_at place.Memory b (patch_of x) && is_hard_kind (kind_of x.kind))) is tells
 
 -- what is kept over it
-over_is : (c : After-hard_over-over) (n : ℕ) → HasIndex c.args.heads.now n c.args.index → c.hard_over-over.result ≡ hard_over_of c.args.levels.now.ranks n
-over_is c n index = c.hard_over-over.ensures no_rank ∙ rank_kept c.args.heads.now c.args.levels.now.ranks c.requires.rising c.requires.aligned n c.args.index index (λ r. r.hard_over) no_rank
+over_is : (c : After-hard_over-over) (n : ℕ) → HasIndex c.args.heads.now.list.items n c.args.index → c.hard_over-over.result ≡ hard_over_of c.args.levels.now.ranks n
+over_is c n index = c.hard_over-over.ensures no_rank ∙ rank_kept c.args.heads.now.list.items c.args.levels.now.ranks c.args.heads.now.rising c.requires.aligned n c.args.index index (λ r. r.hard_over) no_rank
 
-not_hard : (c : After-hard_over-over) (n : ℕ) → HasIndex c.args.heads.now n c.args.index → IsHardNumber (patches_of c.args.heads.now) c.args.block n → ⊥
-not_hard c n index hard = false≢true (sym c.if-is_hard_in.false ∙ (said c.args.heads.now c.args.index c.args.block c.index-heads-index.result c.is_hard_in.result c.index-heads-index.is c.is_hard_in.ensures ∙ here_hard c.args.heads.now c.requires.rising n c.args.index c.index-heads-index.result index c.args.block hard))
+not_hard : (c : After-hard_over-over) (n : ℕ) → HasIndex c.args.heads.now.list.items n c.args.index → IsHardNumber (patches_of c.args.heads.now.list.items) c.args.block n → ⊥
+not_hard c n index hard = false≢true (sym c.if-is_hard_in.false ∙ (said c.args.heads.now.list.items c.args.index c.args.block c.index.result.now c.is_hard_in.result c.index.ensures c.is_hard_in.ensures ∙ here_hard c.args.heads.now.list.items c.args.heads.now.rising n c.args.index c.index.result.now index c.args.block hard))
 
 pub returns-then-is_hard_in : goal.returns-then-is_hard_in
 returns-then-is_hard_in c n index = (
-  λ t. inl (hard_here c.args.heads.now c.requires.rising n c.args.index c.index-heads-index.result index c.args.block (sym (said c.args.heads.now c.args.index c.args.block c.index-heads-index.result c.is_hard_in.result c.index-heads-index.is c.is_hard_in.ensures) ∙ c.if-is_hard_in.true)),
+  λ t. inl (hard_here c.args.heads.now.list.items c.args.heads.now.rising n c.args.index c.index.result.now index c.args.block (sym (said c.args.heads.now.list.items c.args.index c.args.block c.index.result.now c.is_hard_in.result c.index.ensures c.is_hard_in.ensures) ∙ c.if-is_hard_in.true)),
   λ k. refl,
 )
 
@@ -38,16 +38,16 @@ returns-then-over-eq0 c n index =
 pub returns-in-Some : goal.returns-in-Some
 returns-in-Some c n index =
     let at = (goal.at.returns-in-Some c).After-hard_over-over in
-    let heads = c.args.heads.now in
+    let heads = c.args.heads.now.list.items in
     let b = c.args.block in
     let s = c.in-Some.at in
-    let d = c.index-heads-at.result in
+    let d = c.index-in-Some.result.now in
     let over = c.hard_over-over.result in
-    let told = said heads s b d c.is_hard_in-in-Some.result c.index-heads-at.is c.is_hard_in-in-Some.ensures in (
-      λ t. inr (λ none. c.if-over-eq0.false (omega (arith, over_is at n index, none)), subst (IsHardNumber (patches_of heads) b) (over_is at n index) (hard_here heads c.requires.rising over s d c.in-Some.ensures.found b (sym told ∙ t))),
+    let told = said heads s b d c.is_hard_in-in-Some.result c.index-in-Some.ensures c.is_hard_in-in-Some.ensures in (
+      λ t. inr (λ none. c.if-over-eq0.false (omega (arith, over_is at n index, none)), subst (IsHardNumber (patches_of heads) b) (over_is at n index) (hard_here heads c.args.heads.now.rising over s d c.in-Some.ensures.found b (sym told ∙ t))),
       λ k. elim k [
         | inl hard ↦ absurd (not_hard at n index hard)
-        | inr o ↦ told ∙ here_hard heads c.requires.rising over s d c.in-Some.ensures.found b (subst (IsHardNumber (patches_of heads) b) (sym (over_is at n index)) o.1)
+        | inr o ↦ told ∙ here_hard heads c.args.heads.now.rising over s d c.in-Some.ensures.found b (subst (IsHardNumber (patches_of heads) b) (sym (over_is at n index)) o.1)
       ],
     )
 
@@ -57,6 +57,6 @@ returns-in-None c n index =
       λ t. absurd (false≢true t),
       λ k. elim k [
         | inl hard ↦ absurd (not_hard at n index hard)
-        | inr o ↦ absurd (no_patch c.args.heads.now c.hard_over-over.result c.in-None.ensures.none o.1.patch o.1.head (o.1.numbered ∙ sym (over_is at n index)))
+        | inr o ↦ absurd (no_patch c.args.heads.now.list.items c.hard_over-over.result c.in-None.ensures.none o.1.patch o.1.head (o.1.numbered ∙ sym (over_is at n index)))
       ],
     )

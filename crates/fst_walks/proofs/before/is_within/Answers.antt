@@ -7,7 +7,7 @@ pub returns : goal.returns
 returns c told n k =
     let row = c.args.row.now in
     let here : get_or row k.0 0 ≡ n = any_default row k.0 0 n k.1 ∙ k.2 in
-    subst (λ m. Contains c.args.other.now m ⊎ IsHardNumber (patches_of c.args.sight.now.heads.now) c.args.block m) here (c.loop-number.invariant k.0 (omega (arith, k.1, c.loop-number-test.false)))
+    subst (λ m. Contains c.args.other.now m ⊎ IsHardNumber (patches_of c.args.sight.now.heads.now.list.items) c.args.block m) here (c.loop-number.invariant k.0 (omega (arith, k.1, c.loop-number-test.false)))
 
 pub loop-number-preserved : goal.loop-number-preserved
 loop-number-preserved c = search rules

@@ -10,10 +10,10 @@ use Rattle.fst_walks.proofs.below.descend.Goals.{After-turn-met}
 use Rattle.fst_walks.proofs.below.descend.Goals as goal
 
 -- after one step more
-descends : (c : After-turn-met) → (let sight = c.args.sight.now in let start = c.args.down.now in let needs = needs_of sight.needs.now.lists in let patches = patches_of sight.heads.now in
-    Walking (StepsHigh patches (level_of sight.levels.now.ranks) c.args.least needs start.crossed.items) (IsHighNeed patches (level_of sight.levels.now.ranks) c.args.least needs) start.crossed.items (numbers_met sight.heads.now start.walk) (c.loop-at.at + 1) c.turn-met.new.down.crossed.items (numbers_met sight.heads.now c.turn-met.new.down.walk))
+descends : (c : After-turn-met) → (let sight = c.args.sight.now in let start = c.args.down.now in let needs = needs_of sight.needs.now.lists in let patches = patches_of sight.heads.now.list.items in
+    Walking (StepsHigh patches (level_of sight.levels.now.ranks) c.args.least needs start.crossed.items) (IsHighNeed patches (level_of sight.levels.now.ranks) c.args.least needs) start.crossed.items (numbers_met sight.heads.now.list.items start.walk) (c.loop-at.at + 1) c.turn-met.new.down.crossed.items (numbers_met sight.heads.now.list.items c.turn-met.new.down.walk))
 descends c =
-    let heads = c.args.sight.now.heads.now in
+    let heads = c.args.sight.now.heads.now.list.items in
     let start = c.args.down.now in
     let down = c.loop-at.down in
     let inside : c.loop-at.at < length (numbers_met heads down.walk) = omega (arith, c.loop-at-test.true, c.len.ensures.long, long_met heads down.walk) in
@@ -28,7 +28,7 @@ returns-then-is_some-2-clause-met c =
 pub returns-then-is_some-clause-met : goal.returns-then-is_some-clause-met
 returns-then-is_some-clause-met c =
     let sight = c.args.sight.now in
-    let heads = sight.heads.now in
+    let heads = sight.heads.now.list.items in
     let start = c.args.down.now in
     let down = c.loop-at.down in
     let inside : c.loop-at.at < length (numbers_met heads down.walk) = omega (arith, c.loop-at-test.true, c.len.ensures.long, long_met heads down.walk) in
@@ -51,7 +51,7 @@ loop-at-preserved c = record {
 pub returns-clause-none : goal.returns-clause-none
 returns-clause-none c n x =
     let sight = c.args.sight.now in
-    let heads = sight.heads.now in
+    let heads = sight.heads.now.list.items in
     let start = c.args.down.now in
     let met = numbers_met heads c.loop-at.down.walk in
     let all = climbing_all (StepsHigh (patches_of heads) (level_of sight.levels.now.ranks) c.args.least (needs_of sight.needs.now.lists) start.crossed.items) (numbers_met heads start.walk) c.loop-at.at met (omega (arith, c.loop-at-test.false, c.len.ensures.long, long_met heads c.loop-at.down.walk)) c.loop-at.invariant.descends.climbing n in

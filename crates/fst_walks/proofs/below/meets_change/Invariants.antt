@@ -5,4 +5,4 @@ use Rattle.fst_levels.specs.Walks.{numbers_met}
 use Rattle.fst_walks.proofs.below.meets_change.Given as goal
 
 abbrev pub invariant-loop-at : goal.invariant-loop-at
-invariant-loop-at l = (k : ℕ) → l.from ≤ k → k < l.at → PassesAt (test.LiveOn l.block) (patches_of l.sight.heads.now) (get_or (numbers_met l.sight.heads.now l.walk) k 0) → ⊥
+invariant-loop-at l = (k : ℕ) → l.from ≤ k → k < l.at → PassesAt (test.LiveOn l.block) (patches_of l.sight.heads.now.list.items) (get_or (numbers_met l.sight.heads.now.list.items l.walk) k 0) → ⊥

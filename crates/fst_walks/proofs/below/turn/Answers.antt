@@ -11,7 +11,7 @@ use Rattle.fst_walks.proofs.below.turn.Goals as goal
 pub returns-clause-away : goal.returns-clause-away
 returns-clause-away c =
     let sight = c.args.sight.now in
-    let heads = sight.heads.now in
+    let heads = sight.heads.now.list.items in
     let down = c.args.down.now in
     let old = numbers_met heads down.walk in
     let new = numbers_met heads c.step_down-looked.new.walk in

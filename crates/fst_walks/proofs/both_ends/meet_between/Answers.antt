@@ -12,7 +12,7 @@ use Rattle.fst_walks.proofs.both_ends.meet_between.Goals as goal
 pub returns-then-is_some-clause-together : goal.returns-then-is_some-clause-together
 returns-then-is_some-clause-together c =
     let sight = c.args.sight.now in
-    let heads = sight.heads.now in
+    let heads = sight.heads.now.list.items in
     let begun = c.args.ends.now in
     let ends = c.loop-up_at.ends in
     let inside : c.loop-up_at.up_at < length (numbers_met heads ends.up.walk) = omega (arith, c.loop-up_at-test.true, c.len.ensures.long, long_met heads ends.up.walk) in
@@ -22,7 +22,7 @@ returns-then-is_some-clause-together c =
 pub loop-up_at-preserved-then-looked : goal.loop-up_at-preserved-then-looked
 loop-up_at-preserved-then-looked c =
     let sight = c.args.sight.now in
-    let heads = sight.heads.now in
+    let heads = sight.heads.now.list.items in
     let begun = c.args.ends.now in
     let ends = c.loop-up_at.ends in
     let known = c.loop-up_at.invariant in
@@ -41,23 +41,23 @@ loop-up_at-preserved-then-looked c =
     }
 
 -- the next one of the walk down is there
-inside : (c : After-turn_down-met) → c.loop-up_at.down_at < length (numbers_met c.args.sight.now.heads.now c.loop-up_at.ends.down.walk)
-inside c = omega (arith, c.if-down_at-len.true, c.len-in-loop-up_at.ensures.long, long_met c.args.sight.now.heads.now c.loop-up_at.ends.down.walk)
+inside : (c : After-turn_down-met) → c.loop-up_at.down_at < length (numbers_met c.args.sight.now.heads.now.list.items c.loop-up_at.ends.down.walk)
+inside c = omega (arith, c.if-down_at-len.true, c.len-in-loop-up_at.ensures.long, long_met c.args.sight.now.heads.now.list.items c.loop-up_at.ends.down.walk)
 
 -- the step from its end leaves what is done in turn
-beside : (c : After-turn_down-met) → Walking (StepsHigh (patches_of c.args.sight.now.heads.now) (level_of c.args.sight.now.levels.now.ranks) c.args.least (needs_of c.args.sight.now.needs.now.lists) c.args.ends.now.down.crossed.items) (IsHighNeed (patches_of c.args.sight.now.heads.now) (level_of c.args.sight.now.levels.now.ranks) c.args.least (needs_of c.args.sight.now.needs.now.lists)) c.args.ends.now.down.crossed.items (numbers_met c.args.sight.now.heads.now c.args.ends.now.down.walk) c.loop-up_at.down_at c.turn_down-met.new.ends.down.crossed.items (numbers_met c.args.sight.now.heads.now c.turn_down-met.new.ends.down.walk)
+beside : (c : After-turn_down-met) → Walking (StepsHigh (patches_of c.args.sight.now.heads.now.list.items) (level_of c.args.sight.now.levels.now.ranks) c.args.least (needs_of c.args.sight.now.needs.now.lists) c.args.ends.now.down.crossed.items) (IsHighNeed (patches_of c.args.sight.now.heads.now.list.items) (level_of c.args.sight.now.levels.now.ranks) c.args.least (needs_of c.args.sight.now.needs.now.lists)) c.args.ends.now.down.crossed.items (numbers_met c.args.sight.now.heads.now.list.items c.args.ends.now.down.walk) c.loop-up_at.down_at c.turn_down-met.new.ends.down.crossed.items (numbers_met c.args.sight.now.heads.now.list.items c.turn_down-met.new.ends.down.walk)
 beside c =
-    let heads = c.args.sight.now.heads.now in
+    let heads = c.args.sight.now.heads.now.list.items in
     let begun = c.args.ends.now in
     let ends = c.loop-up_at.ends in
     high_beside (patches_of heads) (level_of c.args.sight.now.levels.now.ranks) c.args.least (needs_of c.args.sight.now.needs.now.lists) begun.down.crossed.items (numbers_met heads begun.down.walk) c.loop-up_at.down_at ends.down.crossed.items c.turn_down-met.new.ends.down.crossed.items (numbers_met heads ends.down.walk) (numbers_met heads c.turn_down-met.new.ends.down.walk) c.turn_from_end-last.result (omega (arith, inside c)) (omega (arith, c.turn_from_end-last.ensures, c.len-before.ensures.long, long_met heads ends.down.walk)) c.loop-up_at.invariant.descends c.turn_down-met.ensures.visits c.turn_down-met.ensures.crossed
 
 -- and the one in turn is done after it
-descended : (c : After-turn_down-met-else-looked) → c.loop-up_at.down_at < length (numbers_met c.args.sight.now.heads.now c.loop-up_at.ends.down.walk)
-    → Walking (StepsHigh (patches_of c.args.sight.now.heads.now) (level_of c.args.sight.now.levels.now.ranks) c.args.least (needs_of c.args.sight.now.needs.now.lists) c.args.ends.now.down.crossed.items) (IsHighNeed (patches_of c.args.sight.now.heads.now) (level_of c.args.sight.now.levels.now.ranks) c.args.least (needs_of c.args.sight.now.needs.now.lists)) c.args.ends.now.down.crossed.items (numbers_met c.args.sight.now.heads.now c.args.ends.now.down.walk) c.loop-up_at.down_at c.turn_down-met.new.ends.down.crossed.items (numbers_met c.args.sight.now.heads.now c.turn_down-met.new.ends.down.walk)
-    → Walking (StepsHigh (patches_of c.args.sight.now.heads.now) (level_of c.args.sight.now.levels.now.ranks) c.args.least (needs_of c.args.sight.now.needs.now.lists) c.args.ends.now.down.crossed.items) (IsHighNeed (patches_of c.args.sight.now.heads.now) (level_of c.args.sight.now.levels.now.ranks) c.args.least (needs_of c.args.sight.now.needs.now.lists)) c.args.ends.now.down.crossed.items (numbers_met c.args.sight.now.heads.now c.args.ends.now.down.walk) (c.loop-up_at.down_at + 1) c.turn_down-met-else-looked.new.ends.down.crossed.items (numbers_met c.args.sight.now.heads.now c.turn_down-met-else-looked.new.ends.down.walk)
+descended : (c : After-turn_down-met-else-looked) → c.loop-up_at.down_at < length (numbers_met c.args.sight.now.heads.now.list.items c.loop-up_at.ends.down.walk)
+    → Walking (StepsHigh (patches_of c.args.sight.now.heads.now.list.items) (level_of c.args.sight.now.levels.now.ranks) c.args.least (needs_of c.args.sight.now.needs.now.lists) c.args.ends.now.down.crossed.items) (IsHighNeed (patches_of c.args.sight.now.heads.now.list.items) (level_of c.args.sight.now.levels.now.ranks) c.args.least (needs_of c.args.sight.now.needs.now.lists)) c.args.ends.now.down.crossed.items (numbers_met c.args.sight.now.heads.now.list.items c.args.ends.now.down.walk) c.loop-up_at.down_at c.turn_down-met.new.ends.down.crossed.items (numbers_met c.args.sight.now.heads.now.list.items c.turn_down-met.new.ends.down.walk)
+    → Walking (StepsHigh (patches_of c.args.sight.now.heads.now.list.items) (level_of c.args.sight.now.levels.now.ranks) c.args.least (needs_of c.args.sight.now.needs.now.lists) c.args.ends.now.down.crossed.items) (IsHighNeed (patches_of c.args.sight.now.heads.now.list.items) (level_of c.args.sight.now.levels.now.ranks) c.args.least (needs_of c.args.sight.now.needs.now.lists)) c.args.ends.now.down.crossed.items (numbers_met c.args.sight.now.heads.now.list.items c.args.ends.now.down.walk) (c.loop-up_at.down_at + 1) c.turn_down-met-else-looked.new.ends.down.crossed.items (numbers_met c.args.sight.now.heads.now.list.items c.turn_down-met-else-looked.new.ends.down.walk)
 descended c lt before =
-    let heads = c.args.sight.now.heads.now in
+    let heads = c.args.sight.now.heads.now.list.items in
     let begun = c.args.ends.now in
     let ends = c.loop-up_at.ends in
     let mid = c.turn_down-met.new.ends in
@@ -75,7 +75,7 @@ turn_down-met-requires-else-looked-clause-apart c = rw c.turn_down-met.ensures.u
 
 pub turn_down-met-requires-else-looked-clause-at : goal.turn_down-met-requires-else-looked-clause-at
 turn_down-met-requires-else-looked-clause-at c =
-    let heads = c.args.sight.now.heads.now in
+    let heads = c.args.sight.now.heads.now.list.items in
     let grown = visits_longer _ (numbers_met heads c.loop-up_at.ends.down.walk) (numbers_met heads c.turn_down-met.new.ends.down.walk) c.turn_down-met.ensures.visits in
     omega (arith, grown, c.if-down_at-len.true, c.len-in-loop-up_at.ensures.long, long_met heads c.loop-up_at.ends.down.walk, long_met heads c.turn_down-met.new.ends.down.walk)
 
@@ -87,14 +87,14 @@ returns-then-is_some-3-clause-together c =
       met.0,
       met.1,
       record {
-        over = c.loop-up_at.invariant.climbs.climbing.only met.0 (subst (λ (w : BlockWalk). Contains (numbers_met c.args.sight.now.heads.now w.walk) met.0) c.turn_down-met.ensures.up met.2);
+        over = c.loop-up_at.invariant.climbs.climbing.only met.0 (subst (λ (w : BlockWalk). Contains (numbers_met c.args.sight.now.heads.now.list.items w.walk) met.0) c.turn_down-met.ensures.up met.2);
         under = under.climbing.only met.0 met.3;
       },
     ))
 
 pub loop-up_at-preserved : goal.loop-up_at-preserved
 loop-up_at-preserved c =
-    let heads = c.args.sight.now.heads.now in
+    let heads = c.args.sight.now.heads.now.list.items in
     let ends = c.loop-up_at.ends in
     let known = c.loop-up_at.invariant in
     let mid = c.turn_down-met.new.ends in
@@ -122,7 +122,7 @@ loop-up_at-preserved c =
 pub returns-else-down_at-len-clause-apart : goal.returns-else-down_at-len-clause-apart
 returns-else-down_at-len-clause-apart c =
     let sight = c.args.sight.now in
-    let heads = sight.heads.now in
+    let heads = sight.heads.now.list.items in
     let patches = patches_of heads in
     let level = level_of sight.levels.now.ranks in
     let needs = needs_of sight.needs.now.lists in
@@ -142,7 +142,7 @@ returns-else-down_at-len-clause-apart c =
 pub returns-after-loop-up_at-clause-apart : goal.returns-after-loop-up_at-clause-apart
 returns-after-loop-up_at-clause-apart c =
     let sight = c.args.sight.now in
-    let heads = sight.heads.now in
+    let heads = sight.heads.now.list.items in
     let patches = patches_of heads in
     let level = level_of sight.levels.now.ranks in
     let needs = needs_of sight.needs.now.lists in

@@ -11,7 +11,7 @@ use Rattle.fst_walks.proofs.both_ends.turn_down.Goals as goal
 pub returns-clause-apart : goal.returns-clause-apart
 returns-clause-apart c =
     let sight = c.args.sight.now in
-    let heads = sight.heads.now in
+    let heads = sight.heads.now.list.items in
     let down = c.args.ends.now.down in
     let old = numbers_met heads down.walk in
     let new = numbers_met heads c.step_down-more.new.walk in

@@ -10,7 +10,7 @@ use Rattle.fst_walks.proofs.both_ends.turn_up.Goals as goal
 pub returns-clause-apart : goal.returns-clause-apart
 returns-clause-apart c =
     let sight = c.args.sight.now in
-    let heads = sight.heads.now in
+    let heads = sight.heads.now.list.items in
     let up = c.args.ends.now.up in
     let old = numbers_met heads up.walk in
     let new = numbers_met heads c.step_up-more.new.walk in

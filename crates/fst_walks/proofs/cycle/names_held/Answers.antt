@@ -12,7 +12,7 @@ returns c = (
   λ m.
       let k = name_of c.args.names.now m.0 m.1 in
       let d : PatchNo = record { 0 = 0 } in
-      absurd (c.loop-name.invariant k.0 d (omega (arith, k.1, c.loop-name-test.false)) (subst (λ n. pending_in (nodes_of c.args.sight.now.heads.now) n ≡ pending.Held) (sym (k.2 d)) m.2)),
+      absurd (c.loop-name.invariant k.0 d (omega (arith, k.1, c.loop-name-test.false)) (subst (λ n. pending_in (nodes_of c.args.sight.now.heads.now.list.items) n ≡ pending.Held) (sym (k.2 d)) m.2)),
 )
 
 pub loop-name-init : goal.loop-name-init

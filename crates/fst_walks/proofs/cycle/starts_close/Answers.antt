@@ -12,7 +12,7 @@ use Rattle.fst_walks.proofs.cycle.starts_close.Goals as goal
 
 pub returns-clause-close : goal.returns-clause-close
 returns-clause-close c =
-    let heads = c.args.sight.now.heads.now in
+    let heads = c.args.sight.now.heads.now.list.items in
     let told : ℕ → Pending = pending_in (nodes_of heads) in
     let Start = IsStart (patches_of heads) c.args.starts in
     let bottoms = numbers_met heads c.visit_held.new.walk in

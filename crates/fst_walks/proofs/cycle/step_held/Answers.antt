@@ -1,4 +1,4 @@
-use Rattle.std.proofs.Common.{ℕ, get_or, Contains, sym, subst}
+use Rattle.std.proofs.Common.{◌∙◌, ℕ, get_or, Contains, ap, sym, subst}
 use Rattle.fst_heads.specs.{Heads.patches_of, Nodes.{nodes_of, pending_in}, declared.head.Head.Head, declared.pending.Pending.Pending}
 use Rattle.fst_heads.proofs.Indices.{direct_at, named_at}
 use Rattle.fst_walks.specs.Searching.{IsNextHeld}
@@ -9,7 +9,7 @@ use Rattle.fst_walks.proofs.cycle.step_held.Goals as goal
 
 pub returns-clause-visits : goal.returns-clause-visits
 returns-clause-visits c =
-    let heads = c.args.sight.now.heads.now in
+    let heads = c.args.sight.now.heads.now.list.items in
     let walk = c.args.walk.now in
     let told : ℕ → Pending = pending_in (nodes_of heads) in
     let Step = IsNextHeld (patches_of heads) told in
@@ -17,8 +17,8 @@ returns-clause-visits c =
     let n = get_or met c.args.at 0 in
     let s = c.index_at-index.result in
     let index = index_met heads walk c.args.at s c.requires.visited.long c.requires.at c.index_at-index.ensures.index c.index_at-index.ensures.inside in
-    let d : Head = c.index-sight-index.result in
+    let d : Head = c.index.result.now in
     visits_same _ (Step n) met (numbers_met heads c.visit_row.new.walk)
-    (λ q k. (direct_at heads n q s d index (subst (λ row. Contains row q) c.as_slice-row.ensures k.0), k.1))
-    (λ q k. (subst (λ row. Contains row q) (sym c.as_slice-row.ensures) (named_at heads n q s d c.requires.sees.rising index k.0), k.1))
+    (λ q k. (direct_at heads n q s d index (subst (λ row. Contains row q) (c.as_slice-row.ensures ∙ ap (λ h. h.dependencies.items) c.index.ensures) k.0), k.1))
+    (λ q k. (subst (λ row. Contains row q) (sym (c.as_slice-row.ensures ∙ ap (λ h. h.dependencies.items) c.index.ensures)) (named_at heads n q s d c.args.sight.now.heads.now.rising index k.0), k.1))
     c.visit_row.ensures.visits

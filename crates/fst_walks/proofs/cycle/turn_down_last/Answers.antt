@@ -8,6 +8,6 @@ use Rattle.fst_walks.proofs.cycle.turn_down_last.Goals as goal
 
 pub returns-then-before-now-clause-goes_on : goal.returns-then-before-now-clause-goes_on
 returns-then-before-now-clause-goes_on c =
-    let heads = c.args.sight.now.heads.now in
+    let heads = c.args.sight.now.heads.now.list.items in
     let down = c.args.ends.now.down.walk in
     visits_on (IsNextHeld (patches_of heads) (pending_in (nodes_of heads))) c.turn_from_end-last.result (numbers_met heads down) (numbers_met heads c.turn_down-met.new.ends.down.walk) (omega (arith, c.turn_from_end-last.ensures, c.len-before.ensures.long, long_met heads down)) c.turn_down-met.ensures.visits

@@ -8,7 +8,7 @@ use Rattle.fst_walks.proofs.cycle.turn_up.Goals as goal
 
 pub returns-clause-apart : goal.returns-clause-apart
 returns-clause-apart c not_met =
-    let heads = c.args.sight.now.heads.now in
+    let heads = c.args.sight.now.heads.now.list.items in
     let up = c.args.ends.now.up.walk in
     let old = numbers_met heads up in
     let new = numbers_met heads c.step_above-more.new.walk in

@@ -8,6 +8,6 @@ use Rattle.fst_walks.proofs.cycle.turn_up_last.Goals as goal
 
 pub returns-then-before-now-clause-goes_on : goal.returns-then-before-now-clause-goes_on
 returns-then-before-now-clause-goes_on c =
-    let heads = c.args.sight.now.heads.now in
+    let heads = c.args.sight.now.heads.now.list.items in
     let up = c.args.ends.now.up.walk in
     visits_on (IsNextAbove (patches_of heads) (pending_in (nodes_of heads))) c.turn_from_end-last.result (numbers_met heads up) (numbers_met heads c.turn_up-met.new.ends.up.walk) (omega (arith, c.turn_from_end-last.ensures, c.len-before.ensures.long, long_met heads up)) c.turn_up-met.ensures.visits

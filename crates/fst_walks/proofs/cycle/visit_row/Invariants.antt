@@ -7,6 +7,6 @@ use Rattle.fst_walks.proofs.cycle.visit_row.Given as goal
 
 abbrev pub invariant-loop-number : goal.invariant-loop-number
 invariant-loop-number l = record {
-  visited : Visited l.sight.heads.now l.walk;
-  visits : Visits (λ n. Contains (take l.number-index l.row) n × (pending_in (nodes_of l.sight.heads.now) n ≡ pending.Held)) (numbers_met l.sight.heads.now l.initial.walk) (numbers_met l.sight.heads.now l.walk);
+  visited : Visited l.sight.heads.now.list.items l.walk;
+  visits : Visits (λ n. Contains (take l.number-index l.row) n × (pending_in (nodes_of l.sight.heads.now.list.items) n ≡ pending.Held)) (numbers_met l.sight.heads.now.list.items l.initial.walk) (numbers_met l.sight.heads.now.list.items l.walk);
 }

@@ -7,7 +7,7 @@ use Rattle.fst_walks.proofs.ends.meets.Goals as goal
 
 pub returns-then-has_met-clause-met : goal.returns-then-has_met-clause-met
 returns-then-has_met-clause-met c =
-    let heads = c.args.sight.now.heads.now in
+    let heads = c.args.sight.now.heads.now.list.items in
     let walk = c.args.walk.now in
     let met = numbers_met heads walk in
     let at = c.loop-at.at in
@@ -21,7 +21,7 @@ returns-then-has_met-clause-met c =
 
 pub loop-at-preserved : goal.loop-at-preserved
 loop-at-preserved c k past up here =
-    let heads = c.args.sight.now.heads.now in
+    let heads = c.args.sight.now.heads.now.list.items in
     let walk = c.args.walk.now in
     let other = c.args.other.now in
     let met = numbers_met heads walk in
@@ -31,7 +31,7 @@ loop-at-preserved c k past up here =
     elim (cases_eq k at) [
       | inl same ↦
           let there = subst (λ j. Contains (numbers_met heads other) (get_or met j 0)) same here in
-          false≢true (sym c.if-has_met.false ∙ c.has_met.ensures.met.1 (met_index heads other c.requires.sees.rising c.requires.other.long c.has_met.ensures.inside (get_or met at 0) c.index_at-index.result index there))
+          false≢true (sym c.if-has_met.false ∙ c.has_met.ensures.met.1 (met_index heads other c.args.sight.now.heads.now.rising c.requires.other.long c.has_met.ensures.inside (get_or met at 0) c.index_at-index.result index there))
       | inr before ↦ c.loop-at.invariant k past (omega (arith, up, before)) here
     ]
 

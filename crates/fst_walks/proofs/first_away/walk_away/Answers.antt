@@ -12,7 +12,7 @@ loop-at-smaller c = omega (arith, c.len.ensures.few, c.loop-at-test.true, c.loop
 
 pub loop-at-preserved : goal.loop-at-preserved
 loop-at-preserved c =
-    let heads = c.args.sight.now.heads.now in
+    let heads = c.args.sight.now.heads.now.list.items in
     let walk = c.loop-at.walk in
     let at = c.loop-at.at in
     let lt : at < length walk.met = omega (arith, c.loop-at-test.true, c.len.ensures.long) in
@@ -23,7 +23,7 @@ loop-at-preserved c =
 
 pub returns-clause-led : goal.returns-clause-led
 returns-clause-led c few =
-    let heads = c.args.sight.now.heads.now in
+    let heads = c.args.sight.now.heads.now.list.items in
     climbing_all (StepsAway (patches_of heads) (hard_over_of c.args.sight.now.levels.now.ranks) (level_of c.args.sight.now.levels.now.ranks) c.args.least c.args.block) (numbers_met heads c.args.walk.now) c.loop-at.at (numbers_met heads c.loop-at.walk)
     (omega (arith, c.loop-at-test.false, c.len.ensures.long, long_met heads c.loop-at.walk)) c.loop-at.invariant.climbing
 
@@ -32,7 +32,7 @@ returns-clause-only c = c.loop-at.invariant.climbing.only
 
 pub returns-then-looked-most-clause-only : goal.returns-then-looked-most-clause-only
 returns-then-looked-most-clause-only c q met =
-    let heads = c.args.sight.now.heads.now in
+    let heads = c.args.sight.now.heads.now.list.items in
     let walk = c.loop-at.walk in
     let at = c.loop-at.at in
     let lt : at < length walk.met = omega (arith, c.loop-at-test.true, c.len.ensures.long) in

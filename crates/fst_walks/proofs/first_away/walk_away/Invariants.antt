@@ -7,9 +7,9 @@ use Rattle.fst_walks.proofs.first_away.walk_away.Given as goal
 
 abbrev pub invariant-loop-at : goal.invariant-loop-at
 invariant-loop-at l = record {
-  visited : Visited l.sight.heads.now l.walk;
-  climbing : Climbing (StepsAway (patches_of l.sight.heads.now) (hard_over_of l.sight.levels.now.ranks) (level_of l.sight.levels.now.ranks) l.least l.block) (numbers_met l.sight.heads.now l.initial.walk) l.at (numbers_met l.sight.heads.now l.walk);
+  visited : Visited l.sight.heads.now.list.items l.walk;
+  climbing : Climbing (StepsAway (patches_of l.sight.heads.now.list.items) (hard_over_of l.sight.levels.now.ranks) (level_of l.sight.levels.now.ranks) l.least l.block) (numbers_met l.sight.heads.now.list.items l.initial.walk) l.at (numbers_met l.sight.heads.now.list.items l.walk);
 }
 
 abbrev pub decreases-loop-at : goal.decreases-loop-at
-decreases-loop-at l = length l.sight.heads.now - l.at
+decreases-loop-at l = length l.sight.heads.now.list.items - l.at

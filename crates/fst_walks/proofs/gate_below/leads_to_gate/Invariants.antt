@@ -4,4 +4,4 @@ use Rattle.fst_walks.proofs.gate_below.leads_to_gate.Given as goal
 
 -- the step leads to what is at or below the row
 abbrev pub invariant-loop : goal.invariant-loop
-invariant-loop l = IfSome l.next (λ s. (q : ℕ) × HasIndex l.sight.heads.now q s.index × HasUnder (patches_of l.sight.heads.now) l.row (λ m. m ≡ q))
+invariant-loop l = IfSome l.next (λ s. (q : ℕ) × HasIndex l.sight.heads.now.list.items q s.index × HasUnder (patches_of l.sight.heads.now.list.items) l.row (λ m. m ≡ q))

@@ -6,7 +6,7 @@ use Rattle.fst_walks.proofs.gate_below.shortest.Goals as goal
 
 pub loop-number-preserved : goal.loop-number-preserved
 loop-number-preserved c =
-    let heads = c.args.sight.now.heads.now in
+    let heads = c.args.sight.now.heads.now.list.items in
     let row = c.args.row.now in
     let few = c.newest_few-number-items.result.now in
     let at = c.loop-number.number-index in

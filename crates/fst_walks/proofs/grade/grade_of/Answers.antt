@@ -19,4 +19,4 @@ decided patches but b row told free known = record {
 
 pub returns-clause-told : goal.returns-clause-told
 returns-clause-told c =
-    decided (patches_of c.args.sight.now.heads.now) c.args.but c.args.block c.args.row.now c.grade_by_ways.result (λ u. false≢true (sym c.if-is_blocked.false ∙ c.is_blocked.ensures.blocked.1 u)) c.grade_by_ways.ensures.told
+    decided (patches_of c.args.sight.now.heads.now.list.items) c.args.but c.args.block c.args.row.now c.grade_by_ways.result (λ u. false≢true (sym c.if-is_blocked.false ∙ c.is_blocked.ensures.blocked.1 u)) c.grade_by_ways.ensures.told

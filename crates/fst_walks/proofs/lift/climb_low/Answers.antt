@@ -10,7 +10,7 @@ use Rattle.fst_walks.proofs.lift.climb_low.Goals as goal
 
 pub loop-at-preserved : goal.loop-at-preserved
 loop-at-preserved c =
-    let heads = c.args.sight.now.heads.now in
+    let heads = c.args.sight.now.heads.now.list.items in
     let patches = patches_of heads in
     let level = level_of c.args.sight.now.levels.now.ranks in
     let most = c.args.most in
@@ -27,7 +27,7 @@ loop-at-preserved c =
 
 pub returns-clause-met : goal.returns-clause-met
 returns-clause-met c t n =
-    let heads = c.args.sight.now.heads.now in
+    let heads = c.args.sight.now.heads.now.list.items in
     let walking = c.loop-at.invariant.walking in
     let past : length (numbers_met heads c.loop-at.walk) ≤ c.loop-at.at = omega (arith, c.loop-at-test.false, c.len.ensures.long, long_met heads c.loop-at.walk) in
     climbing_all (StepsLow (patches_of heads) (level_of c.args.sight.now.levels.now.ranks) c.args.most c.args.crossed.now) (numbers_met heads c.args.walk.now) c.loop-at.at (numbers_met heads c.loop-at.walk) past walking.climbing n

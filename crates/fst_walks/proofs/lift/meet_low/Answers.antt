@@ -8,7 +8,7 @@ use Rattle.fst_walks.proofs.lift.meet_low.Goals as goal
 
 pub returns-clause-meets : goal.returns-clause-meets
 returns-clause-meets c t =
-    let heads = c.args.sight.now.heads.now in
+    let heads = c.args.sight.now.heads.now.list.items in
     let patches = patches_of heads in
     let level = level_of c.args.sight.now.levels.now.ranks in
     let start = numbers_met heads c.visit_low_changes.new.walk in

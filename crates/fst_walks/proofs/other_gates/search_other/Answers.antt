@@ -17,7 +17,7 @@ loop-at-init c = grind (arith, common_steps)
 
 pub loop-at-preserved : goal.loop-at-preserved
 loop-at-preserved c =
-    let heads = c.args.sight.now.heads.now in
+    let heads = c.args.sight.now.heads.now.list.items in
     let walk = c.loop-at.walk in
     let told : ℕ → Pending = pending_in (nodes_of heads) in
     let Step = IsNextHeld (patches_of heads) told in
@@ -28,21 +28,20 @@ loop-at-preserved c =
     let n = get_or met at 0 in
     let s = c.index_at-index.result in
     let index = index_met heads walk at s c.loop-at.invariant.visited.long lt c.index_at-index.ensures.index c.index_at-index.ensures.inside in
-    let d : Head = c.index-sight-index.result in
+    let d : Head = c.index-head.result.now in
     let new = numbers_met heads c.visit_row.new.walk in
-    let x : Head = get_or heads s d in
-    let below = c.as_slice.ensures in
+    let below = c.as_slice.ensures ∙ ap (λ h. h.dependencies.items) c.index-head.ensures in
     let next : Visits (Step n) met new =
     visits_same _ (Step n) met new
     (λ q k. (direct_at heads n q s d index (subst (λ row. Contains row q) below k.0), k.1))
-    (λ q k. (subst (λ row. Contains row q) (sym below) (named_at heads n q s d c.requires.sees.rising index k.0), k.1))
+    (λ q k. (subst (λ row. Contains row q) (sym below) (named_at heads n q s d c.args.sight.now.heads.now.rising index k.0), k.1))
     c.visit_row.ensures.visits in
     let same : (j : ℕ) → j < length met → get_or new j 0 ≡ get_or met j 0 = λ j in_met. ap (λ q. get_or q j 0) next.kept.1 ∙ get_or_append_left met next.kept.0 0 j in_met in
     record {
       visited = c.visit_row.ensures.visited;
       climbing = climbing_more Step (numbers_met heads c.args.walk.now) at met new inside c.loop-at.invariant.climbing next;
       none = λ j up in_new u. elim (cases_eq j at) [
-        | inl here ↦ false≢true (sym c.if-is_other_gate.false ∙ gate_other heads c.requires.sees.rising n s c.args.gate index x (any_default heads s d x index.0) _ c.is_other_gate.ensures (subst (IsOpenBut (patches_of heads) (Some c.args.gate)) (ap (λ k. get_or new k 0) here ∙ same at inside) u))
+        | inl here ↦ false≢true (sym c.if-is_other_gate.false ∙ gate_other heads c.args.sight.now.heads.now.rising n s c.args.gate index d c.index-head.ensures _ c.is_other_gate.ensures (subst (IsOpenBut (patches_of heads) (Some c.args.gate)) (ap (λ k. get_or new k 0) here ∙ same at inside) u))
         | inr before ↦
             let low : j < at = omega (arith, up, before) in
             c.loop-at.invariant.none j low (omega (arith, low, inside)) (subst (IsOpenBut (patches_of heads) (Some c.args.gate)) (same j (omega (arith, low, inside))) u)
@@ -51,7 +50,7 @@ loop-at-preserved c =
 
 pub returns-then-is_other_gate-clause-met : goal.returns-then-is_other_gate-clause-met
 returns-then-is_other_gate-clause-met c =
-    let heads = c.args.sight.now.heads.now in
+    let heads = c.args.sight.now.heads.now.list.items in
     let walk = c.loop-at.walk in
     let met = numbers_met heads walk in
     let at = c.loop-at.at in
@@ -59,13 +58,12 @@ returns-then-is_other_gate-clause-met c =
     let n = get_or met at 0 in
     let s = c.index_at-index.result in
     let index = index_met heads walk at s c.loop-at.invariant.visited.long lt c.index_at-index.ensures.index c.index_at-index.ensures.inside in
-    let d : Head = c.index-sight-index.result in
-    let x : Head = get_or heads s d in
-    (λ e. (n, c.loop-at.invariant.climbing.only n (Contains-get_or met at 0 (omega (arith, lt, long_met heads walk))), other_gate heads c.requires.sees.rising n s c.args.gate index x (any_default heads s d x index.0) _ c.is_other_gate.ensures c.if-is_other_gate.true), λ u. refl)
+    let d : Head = c.index-head.result.now in
+    (λ e. (n, c.loop-at.invariant.climbing.only n (Contains-get_or met at 0 (omega (arith, lt, long_met heads walk))), other_gate heads c.args.sight.now.heads.now.rising n s c.args.gate index d c.index-head.ensures _ c.is_other_gate.ensures c.if-is_other_gate.true), λ u. refl)
 
 pub returns-clause-met : goal.returns-clause-met
 returns-clause-met c =
-    let heads = c.args.sight.now.heads.now in
+    let heads = c.args.sight.now.heads.now.list.items in
     let met = numbers_met heads c.loop-at.walk in
     let past : length met ≤ c.loop-at.at = omega (arith, c.loop-at-test.false, c.len.ensures.long, long_met heads c.loop-at.walk) in
     let all = climbing_all (IsNextHeld (patches_of heads) (pending_in (nodes_of heads))) (numbers_met heads c.args.walk.now) c.loop-at.at met past c.loop-at.invariant.climbing in (

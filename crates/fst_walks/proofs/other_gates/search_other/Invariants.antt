@@ -8,10 +8,10 @@ use Rattle.fst_walks.proofs.other_gates.search_other.Given as goal
 -- none of those that were looked at is another open gate
 abbrev pub invariant-loop-at : goal.invariant-loop-at
 invariant-loop-at l = record {
-  visited : Visited l.sight.heads.now l.walk;
-  climbing : Climbing (IsNextHeld (patches_of l.sight.heads.now) (pending_in (nodes_of l.sight.heads.now))) (numbers_met l.sight.heads.now l.initial.walk) l.at (numbers_met l.sight.heads.now l.walk);
-  none : (j : ℕ) → j < l.at → j < length (numbers_met l.sight.heads.now l.walk) → IsOpenBut (patches_of l.sight.heads.now) (Some l.gate) (get_or (numbers_met l.sight.heads.now l.walk) j 0) → ⊥;
+  visited : Visited l.sight.heads.now.list.items l.walk;
+  climbing : Climbing (IsNextHeld (patches_of l.sight.heads.now.list.items) (pending_in (nodes_of l.sight.heads.now.list.items))) (numbers_met l.sight.heads.now.list.items l.initial.walk) l.at (numbers_met l.sight.heads.now.list.items l.walk);
+  none : (j : ℕ) → j < l.at → j < length (numbers_met l.sight.heads.now.list.items l.walk) → IsOpenBut (patches_of l.sight.heads.now.list.items) (Some l.gate) (get_or (numbers_met l.sight.heads.now.list.items l.walk) j 0) → ⊥;
 }
 
 abbrev pub decreases-loop-at : goal.decreases-loop-at
-decreases-loop-at l = length l.sight.heads.now - l.at
+decreases-loop-at l = length l.sight.heads.now.list.items - l.at

@@ -11,12 +11,12 @@ use Rattle.fst_walks.proofs.other_gates.waits_for_another.Goals as goal
 
 pub returns-clause-waits : goal.returns-clause-waits
 returns-clause-waits c =
-    let heads = c.args.sight.now.heads.now in
+    let heads = c.args.sight.now.heads.now.list.items in
     let patches = patches_of heads in
     let told : ℕ → Pending = pending_in (nodes_of heads) in
     let row = c.args.row.now in
     let Other = IsOpenBut patches (Some c.args.gate) in
-    let start = numbers_met c.args.sight.now.heads.now c.visit_row.new.walk in
+    let start = numbers_met c.args.sight.now.heads.now.list.items c.visit_row.new.walk in
     let starts = subst (λ q. Visits (λ n. Contains row n × (told n ≡ pending.Held)) q start) (none_met heads c.clear.new.self c.clear.ensures.met) c.visit_row.ensures.visits in
     let said : (n : ℕ) → IsOpenNumber patches n → IsLedFrom (IsNextHeld patches told) start n ↔ NamesAbove patches n row = λ n gate. searched_led patches told (gates_seen c.args.sight.now c.requires.sees).held n gate (Contains row) start starts in
     let found = c.search_other.ensures.met in (

@@ -14,14 +14,14 @@ returns-then-not-has_dependants-clause-reaches c = (
 
 pub returns-clause-reaches : goal.returns-clause-reaches
 returns-clause-reaches c =
-    let heads = c.args.sight.now.heads.now in
+    let heads = c.args.sight.now.heads.now.list.items in
     let patches = patches_of heads in
     let o = c.requires.is_open in
     let gate : IsOpenNumber patches c.args.gate = record { patch = o.patch; head = o.head; numbered = o.numbered; is_open = o.is_open } in (
       λ e.
           let a = c.starts_close.ensures.close.0 e in
           let touched = c.overlapped.ensures.only a.0 a.1 in
-          (a.0, touched, elim a.2 [ inl same ↦ absurd (touched_no_gate patches c.args.block c.args.span.at c.args.span.len c.args.gate a.0 (rising_patches heads c.requires.sees.rising) gate touched same) | inr d ↦ d ]),
+          (a.0, touched, elim a.2 [ inl same ↦ absurd (touched_no_gate patches c.args.block c.args.span.at c.args.span.len c.args.gate a.0 (rising_patches heads c.args.sight.now.heads.now.rising) gate touched same) | inr d ↦ d ]),
       λ a.
           let m = c.overlapped.ensures.above a.0 a.1 in
           c.starts_close.ensures.close.1 (m.0, m.1, inr (elim m.2 [ inl same ↦ subst (λ n. DependsOn patches n c.args.gate) (sym same) a.2 | inr over ↦ join over a.2 ])),

@@ -7,26 +7,26 @@ use Rattle.fst_walks.proofs.overlap_cycle.overlapped.Goals.{After-as_slice-list}
 use Rattle.fst_walks.proofs.overlap_cycle.overlapped.Goals as goal
 
 -- the list has the changes of the block that are not on disk
-listed : (c : After-as_slice-list) → entries_of c.as_slice-list.result.now ≡ entries_on c.args.block (patches_of c.args.sight.now.heads.now)
+listed : (c : After-as_slice-list) → entries_of c.as_slice-list.result.now ≡ entries_on c.args.block (patches_of c.args.sight.now.heads.now.list.items)
 listed c =
     let sight = c.args.sight.now in
-    let patches = patches_of sight.heads.now in
+    let patches = patches_of sight.heads.now.list.items in
     let list = c.index-sight-block-then-span-eq0 in
     subst (λ ls. entries_of ls ≡ entries_on c.args.block patches) (sym c.as_slice-list.ensures.value)
     (ap (λ l. entries_of l.items) (sym list.is) ∙ listed_at (λ l. entries_of l.items) patches sight.lists.now c.args.block list.result c.requires.block list.is c.requires.sees.listed)
 
 pub returns-then-span-eq0-clause-only : goal.returns-then-span-eq0-clause-only
 returns-then-span-eq0-clause-only c n s =
-    sharing_touched (patches_of c.args.sight.now.heads.now) c.args.block c.args.span.at c.args.span.len (entries_of c.as_slice-list.result.now) (listed (goal.at.returns-then-span-eq0-clause-only c).After-as_slice-list) n s
+    sharing_touched (patches_of c.args.sight.now.heads.now.list.items) c.args.block c.args.span.at c.args.span.len (entries_of c.as_slice-list.result.now) (listed (goal.at.returns-then-span-eq0-clause-only c).After-as_slice-list) n s
 
 pub returns-then-span-eq0-clause-above : goal.returns-then-span-eq0-clause-above
 returns-then-span-eq0-clause-above c n t =
-    (n, touched_sharing (patches_of c.args.sight.now.heads.now) c.args.block c.args.span.at c.args.span.len (entries_of c.as_slice-list.result.now) (listed (goal.at.returns-then-span-eq0-clause-above c).After-as_slice-list) n t, inl refl)
+    (n, touched_sharing (patches_of c.args.sight.now.heads.now.list.items) c.args.block c.args.span.at c.args.span.len (entries_of c.as_slice-list.result.now) (listed (goal.at.returns-then-span-eq0-clause-above c).After-as_slice-list) n t, inl refl)
 
 pub returns-clause-above : goal.returns-clause-above
 returns-clause-above c n t =
     let sight = c.args.sight.now in
-    let patches = patches_of sight.heads.now in
+    let patches = patches_of sight.heads.now.list.items in
     let b = c.args.block in
     let at = c.args.span.at in
     let len = c.args.span.len in

@@ -7,6 +7,6 @@ use Rattle.fst_walks.proofs.starts.visit_names.Given as goal
 
 abbrev pub invariant-loop-name : goal.invariant-loop-name
 invariant-loop-name l = record {
-  visited : Visited l.sight.heads.now l.walk;
-  visits : Visits (λ n. Contains (numbers_of (take l.name-index l.names)) n × (pending_in (nodes_of l.sight.heads.now) n ≡ pending.Held)) (numbers_met l.sight.heads.now l.initial.walk) (numbers_met l.sight.heads.now l.walk);
+  visited : Visited l.sight.heads.now.list.items l.walk;
+  visits : Visits (λ n. Contains (numbers_of (take l.name-index l.names)) n × (pending_in (nodes_of l.sight.heads.now.list.items) n ≡ pending.Held)) (numbers_met l.sight.heads.now.list.items l.initial.walk) (numbers_met l.sight.heads.now.list.items l.walk);
 }

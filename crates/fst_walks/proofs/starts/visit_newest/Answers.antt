@@ -10,7 +10,7 @@ use Rattle.fst_walks.proofs.starts.visit_newest.Goals as goal
 
 pub loop-run-preserved : goal.loop-run-preserved
 loop-run-preserved c =
-    let heads = c.args.sight.now.heads.now in
+    let heads = c.args.sight.now.heads.now.list.items in
     let Held : ℕ → Type 0 = λ m. pending_in (nodes_of heads) m ≡ pending.Held in
     let Touched : ℕ → Type 0 = IsTouched (patches_of heads) c.args.block c.args.span.at c.args.span.len in
     let P : ℕ → Type 0 = λ m. Touched m × Held m in
@@ -44,7 +44,7 @@ loop-run-preserved c =
 
 pub returns-clause-visits : goal.returns-clause-visits
 returns-clause-visits c =
-    let heads = c.args.sight.now.heads.now in
+    let heads = c.args.sight.now.heads.now.list.items in
     let Touched : ℕ → Type 0 = IsTouched (patches_of heads) c.args.block c.args.span.at c.args.span.len in
     let Held : ℕ → Type 0 = λ m. pending_in (nodes_of heads) m ≡ pending.Held in
     let ns = numbers_told c.args.runs.now in

@@ -7,6 +7,6 @@ use Rattle.fst_walks.proofs.starts.visit_newest.Given as goal
 
 abbrev pub invariant-loop-run : goal.invariant-loop-run
 invariant-loop-run l = record {
-  visited : Visited l.sight.heads.now l.walk;
-  visits : Visits (λ n. Contains (take l.run-index (numbers_told l.runs)) n × (IsTouched (patches_of l.sight.heads.now) l.block l.span.at l.span.len n × (pending_in (nodes_of l.sight.heads.now) n ≡ pending.Held))) (numbers_met l.sight.heads.now l.initial.walk) (numbers_met l.sight.heads.now l.walk);
+  visited : Visited l.sight.heads.now.list.items l.walk;
+  visits : Visits (λ n. Contains (take l.run-index (numbers_told l.runs)) n × (IsTouched (patches_of l.sight.heads.now.list.items) l.block l.span.at l.span.len n × (pending_in (nodes_of l.sight.heads.now.list.items) n ≡ pending.Held))) (numbers_met l.sight.heads.now.list.items l.initial.walk) (numbers_met l.sight.heads.now.list.items l.walk);
 }

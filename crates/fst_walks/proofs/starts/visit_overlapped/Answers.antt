@@ -9,11 +9,11 @@ use Rattle.fst_heads.specs.declared.pending.Pending.TheVariants as pending
 use Rattle.fst_walks.proofs.starts.visit_overlapped.Goals as goal
 
 pub loop-listed-init : goal.loop-listed-init
-loop-listed-init c = record { visited = c.requires.visited; visits = sharing_none (λ n. pending_in (nodes_of c.args.sight.now.heads.now) n ≡ pending.Held) c.args.span.at c.args.span.len (numbers_met c.args.sight.now.heads.now c.args.walk.now) }
+loop-listed-init c = record { visited = c.requires.visited; visits = sharing_none (λ n. pending_in (nodes_of c.args.sight.now.heads.now.list.items) n ≡ pending.Held) c.args.span.at c.args.span.len (numbers_met c.args.sight.now.heads.now.list.items c.args.walk.now) }
 
 pub loop-listed-preserved : goal.loop-listed-preserved
 loop-listed-preserved c =
-    let Held : ℕ → Type 0 = λ n. pending_in (nodes_of c.args.sight.now.heads.now) n ≡ pending.Held in
+    let Held : ℕ → Type 0 = λ n. pending_in (nodes_of c.args.sight.now.heads.now.list.items) n ≡ pending.Held in
     let list = c.args.list.now in
     let i = c.loop-listed.listed-index in
     let none : Listed = record { number = 0; span = record { at = 0; len = 0 } } in
@@ -26,16 +26,16 @@ loop-listed-preserved c =
       | then-shares w ↦
           rw (w.walk-is) record {
             visited = w.visit_held.ensures.visited;
-            visits = rw more (sharing_more at len done e Held (numbers_met c.args.sight.now.heads.now c.args.walk.now) (numbers_met c.args.sight.now.heads.now c.loop-listed.walk) (numbers_met c.args.sight.now.heads.now w.visit_held.new.walk) (sym c.shares.ensures ∙ w.if-shares.true) c.loop-listed.invariant.visits w.visit_held.ensures.visits);
+            visits = rw more (sharing_more at len done e Held (numbers_met c.args.sight.now.heads.now.list.items c.args.walk.now) (numbers_met c.args.sight.now.heads.now.list.items c.loop-listed.walk) (numbers_met c.args.sight.now.heads.now.list.items w.visit_held.new.walk) (sym c.shares.ensures ∙ w.if-shares.true) c.loop-listed.invariant.visits w.visit_held.ensures.visits);
           }
       | else-shares w ↦
           rw (w.walk-is) record {
             visited = c.loop-listed.invariant.visited;
-            visits = rw more (sharing_skip at len done e Held (numbers_met c.args.sight.now.heads.now c.args.walk.now) (numbers_met c.args.sight.now.heads.now c.loop-listed.walk) (sym c.shares.ensures ∙ w.if-shares.false) c.loop-listed.invariant.visits);
+            visits = rw more (sharing_skip at len done e Held (numbers_met c.args.sight.now.heads.now.list.items c.args.walk.now) (numbers_met c.args.sight.now.heads.now.list.items c.loop-listed.walk) (sym c.shares.ensures ∙ w.if-shares.false) c.loop-listed.invariant.visits);
           }
     ]
 
 pub returns-clause-visits : goal.returns-clause-visits
 returns-clause-visits c =
-    let Held : ℕ → Type 0 = λ n. pending_in (nodes_of c.args.sight.now.heads.now) n ≡ pending.Held in
-    subst (λ ls. Visits (λ n. IsSharing c.args.span.at c.args.span.len (entries_of ls) n × Held n) (numbers_met c.args.sight.now.heads.now c.args.walk.now) (numbers_met c.args.sight.now.heads.now c.loop-listed.walk)) (take_all c.loop-listed.listed-index c.args.list.now (omega (arith, c.loop-listed-test.false))) c.loop-listed.invariant.visits
+    let Held : ℕ → Type 0 = λ n. pending_in (nodes_of c.args.sight.now.heads.now.list.items) n ≡ pending.Held in
+    subst (λ ls. Visits (λ n. IsSharing c.args.span.at c.args.span.len (entries_of ls) n × Held n) (numbers_met c.args.sight.now.heads.now.list.items c.args.walk.now) (numbers_met c.args.sight.now.heads.now.list.items c.loop-listed.walk)) (take_all c.loop-listed.listed-index c.args.list.now (omega (arith, c.loop-listed-test.false))) c.loop-listed.invariant.visits

@@ -7,6 +7,6 @@ use Rattle.fst_walks.proofs.starts.visit_overlapped.Given as goal
 
 abbrev pub invariant-loop-listed : goal.invariant-loop-listed
 invariant-loop-listed l = record {
-  visited : Visited l.sight.heads.now l.walk;
-  visits : Visits (λ n. IsSharing l.span.at l.span.len (entries_of (take l.listed-index l.list)) n × (pending_in (nodes_of l.sight.heads.now) n ≡ pending.Held)) (numbers_met l.sight.heads.now l.initial.walk) (numbers_met l.sight.heads.now l.walk);
+  visited : Visited l.sight.heads.now.list.items l.walk;
+  visits : Visits (λ n. IsSharing l.span.at l.span.len (entries_of (take l.listed-index l.list)) n × (pending_in (nodes_of l.sight.heads.now.list.items) n ≡ pending.Held)) (numbers_met l.sight.heads.now.list.items l.initial.walk) (numbers_met l.sight.heads.now.list.items l.walk);
 }

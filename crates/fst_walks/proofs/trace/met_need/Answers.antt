@@ -16,4 +16,4 @@ returns-then-is_some c =
     let turn = YieldsList-turn (YieldsList-from_rev_slice few (cc)) c.loop-need.yielded _ c.loop-need.yielded_by _ _ c.in-Some.need c.in-Some.is c.next.ensures.steps in
     let there = in_rest needs from need (in_reversed few _ need turn.0 turn.1) in
     let kept = subst (λ ns. Contains ns need.number) c.of-needs.ensures (mapped (λ (q : Need). q.number) needs need there) in
-    need_found c.args.sight.now.heads.now (needs_of c.args.sight.now.needs.now.lists) c.args.block need.number kept c.met_index-index.result c.met_index-index.ensures.index c.met_index-index.ensures.live
+    need_found c.args.sight.now.heads.now.list.items (needs_of c.args.sight.now.needs.now.lists) c.args.block need.number kept c.met_index-index.result c.met_index-index.ensures.index c.met_index-index.ensures.live

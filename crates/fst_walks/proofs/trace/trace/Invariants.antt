@@ -3,4 +3,4 @@ use Rattle.fst_walks.proofs.Traced.{IsTraced}
 use Rattle.fst_walks.proofs.trace.trace.Given as goal
 
 abbrev pub invariant-loop : goal.invariant-loop
-invariant-loop l = IsTraced l.sight.heads.now (needs_of l.sight.needs.now.lists) l.block l.index l.at
+invariant-loop l = IsTraced l.sight.heads.now.list.items (needs_of l.sight.needs.now.lists) l.block l.index l.at

@@ -11,19 +11,18 @@ block_of h = block_of_kind (kind_of h.kind)
 
 pub returns-in-Change : goal.returns-in-Change
 returns-in-Change c =
-    let heads = c.args.sight.now.heads.now in
-    let rising = c.requires.sees.rising in
+    let heads = c.args.sight.now.heads.now.list.items in
+    let rising = c.args.sight.now.heads.now.rising in
     let n = c.args.number in
     let s = c.args.index in
     let b = c.in-Change.block in
-    let d = c.index-sight-index.result in
-    let said : c.is_hard_in.result ≡ (is_change_at place.Memory b (patch_of (get_or heads s d)) && is_hard_kind (kind_of (get_or heads s d).kind)) = c.is_hard_in.ensures in
-    let on = ap (λ k. block_of_kind (kind_of k)) c.in-Change.is in (
+    let d = c.index-head.result.now in
+    let said : c.is_hard_in.result ≡ (is_change_at place.Memory b (patch_of (get_or heads s d)) && is_hard_kind (kind_of (get_or heads s d).kind)) = c.is_hard_in.ensures ∙ ap (λ h. is_change_at place.Memory b (patch_of h) && is_hard_kind (kind_of h.kind)) c.index-head.ensures in
+    let on = sym (ap block_of c.index-head.ensures) ∙ ap (λ k. block_of_kind (kind_of k)) c.in-Change.is in (
       λ e. (b, hard_here heads rising n s d c.requires.index b (sym said ∙ e)),
       λ h. said ∙ here_hard heads rising n s d c.requires.index b (hard_same heads rising n s d c.requires.index b on h.0 h.1),
     )
 
 pub returns : goal.returns
 returns c =
-    let none = no_change _ c.in_default.not-Change in
-    (λ e. cc, λ h. absurd (none h.0 (hard_on_here c.args.sight.now.heads.now c.requires.sees.rising c.args.number c.args.index c.index-sight-index.result c.requires.index h.0 h.1).change))
+    (λ e. cc, λ h. absurd (no_change _ c.in_default.not-Change h.0 (ap block_of c.index-head.ensures ∙ (hard_on_here c.args.sight.now.heads.now.list.items c.args.sight.now.heads.now.rising c.args.number c.args.index c.index-head.result.now c.requires.index h.0 h.1).change)))

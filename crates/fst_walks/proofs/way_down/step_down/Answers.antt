@@ -1,7 +1,7 @@
-use Rattle.std.proofs.Common.{◌≡◌, ◌≤◌, get_or, sym, subst, inl, inr, arith}
+use Rattle.std.proofs.Common.{◌≤◌, ◌∙◌, get_or, ap, sym, subst, inl, inr, arith}
 use Rattle.std.proofs.lemmas.List.Elements.{Contains-get_or}
 use Rattle.fst_types.specs.Dependencies.{IsLiveNumber}
-use Rattle.fst_heads.specs.Heads.{patches_of}
+use Rattle.fst_heads.specs.{Heads.patches_of, Indices.HasIndex}
 use Rattle.fst_heads.proofs.Indices.{index_here}
 use Rattle.fst_walks.specs.{BothEnds.{CrossesDown, ShowsBlockUnder, StepsBelow, StepsHigh}, Descending.Visits}
 use Rattle.fst_levels.specs.{Leveling.level_of, Needing.needs_of, Walks.numbers_met}
@@ -10,31 +10,31 @@ use Rattle.fst_walks.proofs.Visiting.{visits_both}
 use Rattle.fst_walks.proofs.way_down.step_down.Goals as goal
 
 pub visit_high_below-below-requires-clause-index : goal.visit_high_below-below-requires-clause-index
-visit_high_below-below-requires-clause-index c = index_here c.args.sight.now.heads.now c.index_at-index.result c.index-sight-index.result (omega (arith, c.index_at-index.ensures.inside, c.requires.visited.long))
+visit_high_below-below-requires-clause-index c = subst (λ n. HasIndex c.args.sight.now.heads.now.list.items n c.index_at-index.result) (sym (ap (λ h. h.number) c.index.ensures)) (index_here c.args.sight.now.heads.now.list.items c.index_at-index.result c.index.result.now (omega (arith, c.index_at-index.ensures.inside, c.requires.visited.long)))
 
 pub cross-across-requires-clause-live : goal.cross-across-requires-clause-live
 cross-across-requires-clause-live c =
-    let heads = c.args.sight.now.heads.now in
+    let heads = c.args.sight.now.heads.now.list.items in
     let walk = c.args.walk.now in
     let met = numbers_met heads walk in
     let at = c.args.at in
     let v = c.requires.visited in
     let index = index_met heads walk at c.index_at-index.result v.long c.requires.at c.index_at-index.ensures.index c.index_at-index.ensures.inside in
-    subst (IsLiveNumber (patches_of heads)) (sym (index.1 c.index-sight-index.result)) (v.live (get_or met at 0) (Contains-get_or met at 0 (omega (arith, c.requires.at, long_met heads walk))))
+    subst (IsLiveNumber (patches_of heads)) (sym (ap (λ h. h.number) c.index.ensures ∙ index.1 c.index.result.now)) (v.live (get_or met at 0) (Contains-get_or met at 0 (omega (arith, c.requires.at, long_met heads walk))))
 
 pub cross-across-requires-clause-index : goal.cross-across-requires-clause-index
-cross-across-requires-clause-index c = index_here c.args.sight.now.heads.now c.index_at-index.result c.index-sight-index.result (omega (arith, c.index_at-index.ensures.inside, c.requires.visited.long))
+cross-across-requires-clause-index c = subst (λ n. HasIndex c.args.sight.now.heads.now.list.items n c.index_at-index.result) (sym (ap (λ h. h.number) c.index.ensures)) (index_here c.args.sight.now.heads.now.list.items c.index_at-index.result c.index.result.now (omega (arith, c.index_at-index.ensures.inside, c.requires.visited.long)))
 
 pub returns-clause-visits : goal.returns-clause-visits
 returns-clause-visits c =
-    let heads = c.args.sight.now.heads.now in
+    let heads = c.args.sight.now.heads.now.list.items in
     let patches = patches_of heads in
     let walk = c.args.walk.now in
     let met = numbers_met heads walk in
     let now = c.args.crossed.now in
     let n = get_or met c.args.at 0 in
     let index = index_met heads walk c.args.at c.index_at-index.result c.requires.visited.long c.requires.at c.index_at-index.ensures.index c.index_at-index.ensures.inside in
-    let same = index.1 c.index-sight-index.result in
+    let same = ap (λ h. h.number) c.index.ensures ∙ index.1 c.index.result.now in
     let level = level_of c.args.sight.now.levels.now.ranks in
     let least = c.args.least in
     let needs = needs_of c.args.sight.now.needs.now.lists in
@@ -46,8 +46,8 @@ returns-clause-visits c =
 
 pub returns-clause-crossed : goal.returns-clause-crossed
 returns-clause-crossed c =
-    let heads = c.args.sight.now.heads.now in
+    let heads = c.args.sight.now.heads.now.list.items in
     let walk = c.args.walk.now in
     let index = index_met heads walk c.args.at c.index_at-index.result c.requires.visited.long c.requires.at c.index_at-index.ensures.index c.index_at-index.ensures.inside in
-    let same : (get_or heads c.index_at-index.result c.index-sight-index.result).number ≡ get_or (numbers_met heads walk) c.args.at 0 = index.1 c.index-sight-index.result in
+    let same = ap (λ h. h.number) c.index.ensures ∙ index.1 c.index.result.now in
     subst (λ m. ShowsBlockUnder (patches_of heads) m c.args.crossed.now c.cross-across.new.crossed) same c.cross-across.ensures.crossed

@@ -10,7 +10,7 @@ use Rattle.fst_walks.proofs.way_down.visit_high_needs.Goals as goal
 pub returns-then-floor-least-clause-visits : goal.returns-then-floor-least-clause-visits
 returns-then-floor-least-clause-visits c =
     let sight = c.args.sight.now in
-    let heads = sight.heads.now in
+    let heads = sight.heads.now.list.items in
     visits_none (IsHighNeed (patches_of heads) (level_of sight.levels.now.ranks) c.args.least (needs_of sight.needs.now.lists) c.args.block) (numbers_met heads c.args.walk.now) (λ q k.
     let leveled = c.requires.sees.leveled.leveled in
     let n = c.requires.sees.needing.needed.named c.args.block q k.0.0 in
@@ -23,7 +23,7 @@ of-needs-requires c = omega (arith, c.requires.block, c.requires.sees.needing.lo
 
 pub loop-need-preserved : goal.loop-need-preserved
 loop-need-preserved c =
-    let heads = c.args.sight.now.heads.now in
+    let heads = c.args.sight.now.heads.now.list.items in
     let H = IsHigh (patches_of heads) (level_of c.args.sight.now.levels.now.ranks) c.args.least in
     let needs = c.of-needs.result.now in
     let row = map (λ (q : Need). q.number) needs in
@@ -39,7 +39,7 @@ loop-need-preserved c =
 pub returns-clause-visits : goal.returns-clause-visits
 returns-clause-visits c =
     let sight = c.args.sight.now in
-    let heads = sight.heads.now in
+    let heads = sight.heads.now.list.items in
     let H = IsHigh (patches_of heads) (level_of sight.levels.now.ranks) c.args.least in
     let row = map (λ (q : Need). q.number) c.of-needs.result.now in
     let all = subst (λ ns. Visits (λ n. Contains ns n × H n) (numbers_met heads c.args.walk.now) (numbers_met heads c.loop-need.walk)) (take_all c.loop-need.need-index row (omega (arith, c.loop-need-test.false, length-map c.of-needs.result.now (λ (q : Need). q.number)))) c.loop-need.invariant.visits in

@@ -8,7 +8,7 @@ use Rattle.fst_walks.proofs.way_down.visit_high_row.Goals as goal
 
 pub loop-number-preserved : goal.loop-number-preserved
 loop-number-preserved c =
-    let heads = c.args.sight.now.heads.now in
+    let heads = c.args.sight.now.heads.now.list.items in
     let H = IsHigh (patches_of heads) (level_of c.args.sight.now.levels.now.ranks) c.args.least in
     let row = c.args.row.now in
     let i = c.loop-number.number-index in
@@ -20,6 +20,6 @@ loop-number-preserved c =
 
 pub returns-clause-visits : goal.returns-clause-visits
 returns-clause-visits c =
-    let heads = c.args.sight.now.heads.now in
+    let heads = c.args.sight.now.heads.now.list.items in
     let H = IsHigh (patches_of heads) (level_of c.args.sight.now.levels.now.ranks) c.args.least in
     subst (λ ns. Visits (λ n. Contains ns n × H n) (numbers_met heads c.args.walk.now) (numbers_met heads c.loop-number.walk)) (take_all c.loop-number.number-index c.args.row.now (omega (arith, c.loop-number-test.false))) c.loop-number.invariant.visits

@@ -6,6 +6,6 @@ use Rattle.fst_walks.proofs.way_down.visit_high_row.Given as goal
 
 abbrev pub invariant-loop-number : goal.invariant-loop-number
 invariant-loop-number l = record {
-  visited : Visited l.sight.heads.now l.walk;
-  visits : Visits (λ n. Contains (take l.number-index l.row) n × IsHigh (patches_of l.sight.heads.now) (level_of l.sight.levels.now.ranks) l.least n) (numbers_met l.sight.heads.now l.initial.walk) (numbers_met l.sight.heads.now l.walk);
+  visited : Visited l.sight.heads.now.list.items l.walk;
+  visits : Visits (λ n. Contains (take l.number-index l.row) n × IsHigh (patches_of l.sight.heads.now.list.items) (level_of l.sight.levels.now.ranks) l.least n) (numbers_met l.sight.heads.now.list.items l.initial.walk) (numbers_met l.sight.heads.now.list.items l.walk);
 }

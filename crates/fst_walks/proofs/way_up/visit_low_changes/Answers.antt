@@ -13,15 +13,15 @@ use Rattle.fst_walks.proofs.way_up.visit_low_changes.Goals as goal
 pub returns-then-most-floor-clause-visits : goal.returns-then-most-floor-clause-visits
 returns-then-most-floor-clause-visits c =
     let sight = c.args.sight.now in
-    let heads = sight.heads.now in
+    let heads = sight.heads.now.list.items in
     visits_none (IsLowChange (patches_of heads) (level_of sight.levels.now.ranks) c.args.most c.args.block) (numbers_met heads c.args.walk.now) (λ m k.
     let high = c.requires.sees.leveled.leveled.change c.args.block m k.0 in
     absurd (omega (arith, high, k.1, c.floor.ensures, c.if-most-floor.true)))
 
 -- the list has the changes of the block that are not on disk
-listed : (c : After-as_slice-list) → entries_of c.as_slice-list.result.now ≡ entries_on c.args.block (patches_of c.args.sight.now.heads.now)
+listed : (c : After-as_slice-list) → entries_of c.as_slice-list.result.now ≡ entries_on c.args.block (patches_of c.args.sight.now.heads.now.list.items)
 listed c =
-    let patches = patches_of c.args.sight.now.heads.now in
+    let patches = patches_of c.args.sight.now.heads.now.list.items in
     let b = c.args.block in
     subst (λ ls. entries_of ls ≡ entries_on b patches) (sym c.as_slice-list.ensures.value)
     (ap (λ l. entries_of l.items) (sym c.index-sight-block.is) ∙ listed_at (λ l. entries_of l.items) patches c.args.sight.now.lists.now b c.index-sight-block.result c.requires.block c.index-sight-block.is c.requires.sees.listed)
@@ -29,7 +29,7 @@ listed c =
 pub visit_low-requires-clause-live : goal.visit_low-requires-clause-live
 visit_low-requires-clause-live c =
     let at = goal.at.visit_low-requires-clause-live c in
-    let heads = c.args.sight.now.heads.now in
+    let heads = c.args.sight.now.heads.now.list.items in
     let list = c.as_slice-list.result.now in
     let i = c.loop-listed.listed-index in
     let none : Listed = record { number = 0; span = record { at = 0; len = 0 } } in
@@ -37,11 +37,11 @@ visit_low-requires-clause-live c =
     let n = (get_or list i none).number in
     let inside = c.loop-listed-test.true in
     let there = subst (Contains (map number list)) (get_or-map number list i none 0 inside) (Contains-get_or (map number list) i 0 (omega (arith, inside, length-map list number))) in
-    off_disk heads c.requires.sees.rising n (change_live (patches_of heads) c.args.block n (listed_change (patches_of heads) list c.args.block n (listed at.After-as_slice-list) there))
+    off_disk heads c.args.sight.now.heads.now.rising n (change_live (patches_of heads) c.args.block n (listed_change (patches_of heads) list c.args.block n (listed at.After-as_slice-list) there))
 
 pub loop-listed-preserved : goal.loop-listed-preserved
 loop-listed-preserved c =
-    let heads = c.args.sight.now.heads.now in
+    let heads = c.args.sight.now.heads.now.list.items in
     let L = IsLow (patches_of heads) (level_of c.args.sight.now.levels.now.ranks) c.args.most in
     let list = c.as_slice-list.result.now in
     let i = c.loop-listed.listed-index in
@@ -57,7 +57,7 @@ loop-listed-preserved c =
 
 pub returns-clause-visits : goal.returns-clause-visits
 returns-clause-visits c =
-    let heads = c.args.sight.now.heads.now in
+    let heads = c.args.sight.now.heads.now.list.items in
     let patches = patches_of heads in
     let level = level_of c.args.sight.now.levels.now.ranks in
     let L = IsLow patches level c.args.most in

@@ -6,7 +6,7 @@ use Rattle.fst_walks.proofs.way_up.visit_low_changes.Given as goal
 
 abbrev pub invariant-loop-listed : goal.invariant-loop-listed
 invariant-loop-listed l = record {
-  visited : Visited l.sight.heads.now l.walk;
+  visited : Visited l.sight.heads.now.list.items l.walk;
   room : l.walk.room ≡ l.initial.walk.room;
-  visits : Visits (λ n. Contains (map (λ e. e.number) (take l.listed-index l.list)) n × IsLow (patches_of l.sight.heads.now) (level_of l.sight.levels.now.ranks) l.most n) (numbers_met l.sight.heads.now l.initial.walk) (numbers_met l.sight.heads.now l.walk);
+  visits : Visits (λ n. Contains (map (λ e. e.number) (take l.listed-index l.list)) n × IsLow (patches_of l.sight.heads.now.list.items) (level_of l.sight.levels.now.ranks) l.most n) (numbers_met l.sight.heads.now.list.items l.initial.walk) (numbers_met l.sight.heads.now.list.items l.walk);
 }

@@ -14,7 +14,7 @@ visit_low-requires-clause-live c =
 
 pub loop-number-preserved : goal.loop-number-preserved
 loop-number-preserved c =
-    let heads = c.args.sight.now.heads.now in
+    let heads = c.args.sight.now.heads.now.list.items in
     let L = IsLow (patches_of heads) (level_of c.args.sight.now.levels.now.ranks) c.args.most in
     let row = c.args.row.now in
     let i = c.loop-number.number-index in
@@ -27,6 +27,6 @@ loop-number-preserved c =
 
 pub returns-clause-visits : goal.returns-clause-visits
 returns-clause-visits c =
-    let heads = c.args.sight.now.heads.now in
+    let heads = c.args.sight.now.heads.now.list.items in
     let L = IsLow (patches_of heads) (level_of c.args.sight.now.levels.now.ranks) c.args.most in
     subst (λ ns. Visits (λ n. Contains ns n × L n) (numbers_met heads c.args.walk.now) (numbers_met heads c.loop-number.walk)) (take_all c.loop-number.number-index c.args.row.now (omega (arith, c.loop-number-test.false))) c.loop-number.invariant.visits

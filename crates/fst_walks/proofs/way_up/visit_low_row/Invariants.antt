@@ -6,7 +6,7 @@ use Rattle.fst_walks.proofs.way_up.visit_low_row.Given as goal
 
 abbrev pub invariant-loop-number : goal.invariant-loop-number
 invariant-loop-number l = record {
-  visited : Visited l.sight.heads.now l.walk;
+  visited : Visited l.sight.heads.now.list.items l.walk;
   room : l.walk.room ≡ l.initial.walk.room;
-  visits : Visits (λ n. Contains (take l.number-index l.row) n × IsLow (patches_of l.sight.heads.now) (level_of l.sight.levels.now.ranks) l.most n) (numbers_met l.sight.heads.now l.initial.walk) (numbers_met l.sight.heads.now l.walk);
+  visits : Visits (λ n. Contains (take l.number-index l.row) n × IsLow (patches_of l.sight.heads.now.list.items) (level_of l.sight.levels.now.ranks) l.most n) (numbers_met l.sight.heads.now.list.items l.initial.walk) (numbers_met l.sight.heads.now.list.items l.walk);
 }

@@ -1,43 +1,35 @@
 use Rattle.std.proofs.Common.{◌≡◌, ◌∙◌, arith, ap, length, subst}
-use Rattle.fst_heads.specs.{Heads.{IsRising, patches_of}, Nodes.nodes_of}
+use Rattle.fst_heads.specs.{Heads.{patches_of}, Nodes.nodes_of}
 use Rattle.fst_levels.specs.{Ancestors.GoesUnder, Leveling.IsLeveled}
 use Rattle.fst_graph.specs.Fresh.{IsRoomier}
-use Rattle.fst_heads.proofs.Linking.{rising_same}
 use Rattle.fst_levels.proofs.Seen.{same_patches}
 use Rattle.fst_graph.proofs.{Made.more_after, Ranks.leveled_as}
 use Rattle.fst_graph.proofs.columns.Columns.add_one.Goals.{After-reserve_above}
 use Rattle.fst_graph.proofs.columns.Columns.add_one.Goals as goal
 
 -- the nodes are as they were
-still : (c : After-reserve_above) → nodes_of c.reserve_above.new.heads.items ≡ nodes_of c.args.self.now.heads.items
+still : (c : After-reserve_above) → nodes_of c.reserve_above.new.heads.list.items ≡ nodes_of c.args.self.now.heads.list.items
 still c = c.reserve_above.ensures.nodes ∙ c.reserve.ensures.roomier.nodes
 
-rising : (c : After-reserve_above) → IsRising c.reserve_above.new.heads.items
-rising c = rising_same _ c.args.self.now.heads.items (still c) c.requires.rising
-
-pub level_over-requires-clause-rising : goal.level_over-requires-clause-rising
-level_over-requires-clause-rising c = rw c.deref.ensures.value (rising (goal.at.level_over-requires-clause-rising c).After-reserve_above)
-
-pub level_over-requires-clause-aligned : goal.level_over-requires-clause-aligned
-level_over-requires-clause-aligned c =
-    let at = (goal.at.level_over-requires-clause-aligned c).After-reserve_above in
-    rw (c.deref.ensures.value, same_patches c.reserve_above.new.heads.items c.args.self.now.heads.items (still at), c.reserve.ensures.roomier.ranks) c.requires.leveled.aligned
+pub level_over-requires : goal.level_over-requires
+level_over-requires c =
+    let at = (goal.at.level_over-requires c).After-reserve_above in
+    record { aligned = rw (same_patches c.reserve_above.new.heads.list.items c.args.self.now.heads.list.items (still at), c.reserve.ensures.roomier.ranks) c.requires.leveled.aligned }
 
 -- the levels are over the patches still
-leveled : (c : After-reserve_above) → IsLeveled (patches_of c.reserve_above.new.heads.items) (length c.args.self.now.levels.floors) c.reserve.new.self.levels
-leveled c = rw (same_patches c.reserve_above.new.heads.items c.args.self.now.heads.items (still c)) (leveled_as c.reserve.ensures.roomier.ranks c.reserve.ensures.roomier.floors c.requires.leveled)
-
-pub ancestry_over-requires-clause-rising : goal.ancestry_over-requires-clause-rising
-ancestry_over-requires-clause-rising c = rw c.deref-2.ensures.value (rising (goal.at.ancestry_over-requires-clause-rising c).After-reserve_above)
+leveled : (c : After-reserve_above) → IsLeveled (patches_of c.reserve_above.new.heads.list.items) (length c.args.self.now.levels.floors) c.reserve.new.self.levels
+leveled c = rw (same_patches c.reserve_above.new.heads.list.items c.args.self.now.heads.list.items (still c)) (leveled_as c.reserve.ensures.roomier.ranks c.reserve.ensures.roomier.floors c.requires.leveled)
 
 pub ancestry_over-requires-clause-aligned : goal.ancestry_over-requires-clause-aligned
-ancestry_over-requires-clause-aligned c = rw c.deref-2.ensures.value (leveled (goal.at.ancestry_over-requires-clause-aligned c).After-reserve_above).aligned
+ancestry_over-requires-clause-aligned c = (leveled (goal.at.ancestry_over-requires-clause-aligned c).After-reserve_above).aligned
 
 pub ancestry_over-requires-clause-jumps : goal.ancestry_over-requires-clause-jumps
-ancestry_over-requires-clause-jumps c = rw c.deref-2.ensures.value (leveled (goal.at.ancestry_over-requires-clause-jumps c).After-reserve_above).jumps
+ancestry_over-requires-clause-jumps c = (leveled (goal.at.ancestry_over-requires-clause-jumps c).After-reserve_above).jumps
 
-pub put_down-requires-clause-rising : goal.put_down-requires-clause-rising
-put_down-requires-clause-rising c = rising (goal.at.put_down-requires-clause-rising c).After-reserve_above
+pub put_down-requires-clause-newest : goal.put_down-requires-clause-newest
+put_down-requires-clause-newest c =
+    let at = (goal.at.put_down-requires-clause-newest c).After-reserve_above in
+    rw (same_patches c.reserve_above.new.heads.list.items c.args.self.now.heads.list.items (still at)) c.requires.newest
 
 pub put_down-requires-clause-few : goal.put_down-requires-clause-few
 put_down-requires-clause-few c =
@@ -54,10 +46,10 @@ returns-clause-added c =
     record {
       level = c.level_over.result;
       ancestry = c.ancestry_over.result;
-      under = subst (λ ps. GoesUnder ps c.args.fresh.number c.args.fresh.dependencies.items c.ancestry_over.result) (ap patches_of c.deref-2.ensures.value ∙ same_patches c.reserve_above.new.heads.items c.args.self.now.heads.items (still at)) (rw (← c.as_slice-2.ensures) c.ancestry_over.ensures);
+      under = subst (λ ps. GoesUnder ps c.args.fresh.number c.args.fresh.dependencies.items c.ancestry_over.result) (same_patches c.reserve_above.new.heads.list.items c.args.self.now.heads.list.items (still at)) (rw (← c.as_slice-2.ensures) c.ancestry_over.ensures);
       head = more_after roomier c.put_down.ensures.put;
       over = rw (← R.ranks) c.level_over.ensures.over;
       most = omega arith;
       top = c.level_over.ensures.top;
-      free = omega (arith, wide, c.put_down.ensures.put.wide, ap length c.reserve.ensures.same, c.args.self.now.heads.ok.0, c.reserve.new.self.heads.ok.0);
+      free = omega (arith, wide, c.put_down.ensures.put.wide, ap length c.reserve.ensures.same, c.args.self.now.heads.list.ok.0, c.reserve.new.self.heads.list.ok.0);
     }

@@ -1,23 +1,22 @@
-use Rattle.std.proofs.Common.{[], refl, ◌≡◌, ◌∙◌, count_by, sym, ap, arith}
+use Rattle.std.proofs.Common.{[], refl, ◌≡◌, ◌∙◌, count_by, ap, arith}
 use Rattle.fst_heads.specs.{Heads.patches_of, Names.numbers_of, Nodes.nodes_of, Standings.is_ready_on}
 use Rattle.fst_heads.proofs.Counts.{ready_counted}
 use Rattle.fst_levels.proofs.Resting.{empty_set, none_yet, chosen_ready, chosen_refused}
 use Rattle.fst_graph.proofs.{Flagged.unspared, Grouped.{failed, fine}, RememberedLooks.{choice, ready}}
-use Rattle.fst_graph.proofs.Sound.{its_list, its_standing, many_lists, rising_sound, view_gone, with_prepared}
+use Rattle.fst_graph.proofs.Sound.{its_list, its_standing, many_lists, view_gone, with_prepared}
 use Rattle.fst_graph.proofs.sparse.Sparse.chosen.Goals as goal
 
 pub ready_set-requires : goal.ready_set-requires
 ready_set-requires c = record {
-  rising = rw c.deref-3.ensures.value (rising_sound c.self.invariant.0);
   listed =
-      rw (c.deref-4.ensures.value, c.deref-3.ensures.value)
+      rw c.deref-3.ensures.value
       (its_list c.self.invariant.0 c.deref.result.now c.deref.ensures.value c.args.block.0 c.in-Some.ensures.lookup.3.0 c.in-Some.list.now c.in-Some.ensures.lookup.1);
   most =
       let b = c.args.block.0 in
-      let heads = c.deref-3.result.now in
+      let heads = c.self.inside.columns.heads.list.items in
       let stands = its_standing c.self.invariant.0 c.deref.result.now c.deref.ensures.value b c.in-Some.ensures.lookup.3.0 c.deref-2.result.now c.deref-2.ensures.value in
       let most : c.ready_count-most.result ≡ count_by (is_ready_on b) (nodes_of heads) =
-      c.ready_count-most.ensures none_yet stands.0 ∙ (ap (λ t. t.ready) (stands.1 none_yet) ∙ ap (λ hs. count_by (is_ready_on b) (nodes_of hs)) (sym c.deref-3.ensures.value)) in
+      c.ready_count-most.ensures none_yet stands.0 ∙ ap (λ t. t.ready) (stands.1 none_yet) in
       omega (arith, ready_counted b (nodes_of heads), most);
 }
 
@@ -26,22 +25,22 @@ returns-in_default-clause-ok c =
     let s = c.self.inside in
     let past = c.in_default.ensures.lookup.3 in
     let many = many_lists c.self.invariant.0 c.deref.result.now c.deref.ensures.value in
-    rw (← c.self.view_is, c.new.ensures.items) ((choice _ (patches_of s.columns.heads.items) (view_gone c.self.invariant) c.self.invariant.0.keeps.lawful.on_disk_with_all c.args.block.0 []).1 (empty_set (patches_of s.columns.heads.items) s.blocks c.args.block.0 c.self.invariant.0.keeps.inside (λ lt. omega (arith, lt, past, many))))
+    rw (← c.self.view_is, c.new.ensures.items) ((choice _ (patches_of s.columns.heads.list.items) (view_gone c.self.invariant) c.self.invariant.0.keeps.lawful.on_disk_with_all c.args.block.0 []).1 (empty_set (patches_of s.columns.heads.list.items) s.blocks c.args.block.0 c.self.invariant.0.keeps.inside (λ lt. omega (arith, lt, past, many))))
 
 pub returns : goal.returns
 returns c =
     let s = c.self.inside in
-    let heads = s.columns.heads.items in
+    let heads = s.columns.heads.list.items in
     let b = c.args.block.0 in
     let G = view_gone c.self.invariant in
     let D = c.self.invariant.0.keeps.lawful.on_disk_with_all in
     record {
       ok =
           rw (← c.self.view_is) (fine c.ready_set.result (λ numbers set. (choice _ (patches_of heads) G D b (numbers_of numbers.items)).1 set) (chosen_ready heads s.numbers s.blocks s.columns.ends.up.walk.marks _ s.standings.items s.columns.queue.items s.columns.queue.cap b c.self.invariant.0.keeps c.self.invariant.0.tallies c.ready_set.result
-          (rw (← c.deref-3.ensures.value) c.ready_set.ensures.ok)));
+          (c.ready_set.ensures.ok)));
       refused =
           rw (← c.self.view_is) (failed c.ready_set.result (λ f some. ((ready _ (patches_of heads) G D b).1 some.0, some.1)) (chosen_refused heads s.numbers s.blocks s.columns.ends.up.walk.marks _ s.standings.items s.columns.queue.items s.columns.queue.cap b c.self.invariant.0.keeps c.self.invariant.0.tallies c.ready_set.result
-          (rw (← c.deref-3.ensures.value) c.ready_set.ensures.refused)));
+          (c.ready_set.ensures.refused)));
       same = rw (← c.self.view_is, c.let_go.ensures) refl;
     }
 

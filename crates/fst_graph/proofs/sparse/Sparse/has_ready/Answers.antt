@@ -11,7 +11,7 @@ pub returns : goal.returns
 returns c =
     let s = c.self.inside in
     let S = c.self.invariant.0 in
-    let heads = s.columns.heads.items in
+    let heads = s.columns.heads.list.items in
     let b = c.args.block.0 in
     let inside : b < length c.deref.result.now = omega (arith, c.if-len-block.false, c.len.ensures, ap length c.deref.ensures.value) in
     let there : b < s.blocks = omega (arith, inside, ap length c.deref.ensures.value, S.tallies.standing.long) in
@@ -33,7 +33,7 @@ returns-then-len-block c =
     rw (← c.self.view_is) (λ still. (
       λ told. absurd (false≢true told),
       λ some.
-          let r = (ready _ (patches_of s.columns.heads.items) (view_gone c.self.invariant) S.keeps.lawful.on_disk_with_all b).0 some in
+          let r = (ready _ (patches_of s.columns.heads.list.items) (view_gone c.self.invariant) S.keeps.lawful.on_disk_with_all b).0 some in
           let lt = S.keeps.inside r.0 b r.1.in_memory.head r.1.in_memory.change in
           absurd (omega (arith, lt, c.if-len-block.true, c.len.ensures, as_many_standings S)),
     ))

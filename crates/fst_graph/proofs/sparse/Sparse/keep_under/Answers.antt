@@ -1,22 +1,19 @@
-use Rattle.std.proofs.Common.{◌∙◌, ap, arith, length, sym}
-use Rattle.fst_graph.proofs.{Ranks.leveled_then, Sound.{as_many_marks, as_many_places, if_prepared, over_down, rising_sound, settled_sound, with_prepared}}
+use Rattle.std.proofs.Common.{arith, sym}
+use Rattle.fst_graph.proofs.{Ranks.leveled_then, Sound.{as_many_marks, as_many_places, if_prepared, over_down, settled_sound, with_prepared}}
 use Rattle.fst_graph.proofs.sparse.Sparse.keep_under.Goals as goal
 
-pub keep_under-requires-clause-rising : goal.keep_under-requires-clause-rising
-keep_under-requires-clause-rising c = rw c.deref.ensures.value (rising_sound c.self.invariant.0)
-
 pub keep_under-requires-clause-leveled : goal.keep_under-requires-clause-leveled
-keep_under-requires-clause-leveled c = leveled_then (sym c.deref.ensures.value) (sym c.self.invariant.0.leveled.long) c.self.invariant.0.leveled
+keep_under-requires-clause-leveled c = leveled_then (sym c.self.invariant.0.leveled.long) c.self.invariant.0.leveled
 
 pub keep_under-requires-clause-long : goal.keep_under-requires-clause-long
-keep_under-requires-clause-long c = as_many_marks c.self.invariant.0 ∙ ap length (sym c.deref.ensures.value)
+keep_under-requires-clause-long c = as_many_marks c.self.invariant.0
 
 pub invariant_of-self : goal.invariant_of-self
 invariant_of-self c =
     let S = c.self.invariant.0 in
     let s = c.self.inside in
-    let leveled = leveled_then c.deref.ensures.value S.leveled.long c.keep_under.ensures.leveled in
-    let long = c.keep_under.ensures.long ∙ ap length c.deref.ensures.value in (
+    let leveled = leveled_then S.leveled.long c.keep_under.ensures.leveled in
+    let long = c.keep_under.ensures.long in (
       with_prepared (settled_sound S (record { long = long; crossed = as_many_places S }) (over_down S) leveled)
           (if_prepared S _ (λ p is k. record {
             ready = k.ready;

@@ -7,21 +7,20 @@ use Rattle.fst_heads.proofs.{Counts.flying_counted, Landed.landed_map, Listing.{
 use Rattle.fst_levels.proofs.{Resting.none_yet, Seen.{seen, lawful_nodes}, Shelves.shelved}
 use Rattle.fst_graph.specs.Sound.{remembered_of}
 use Rattle.fst_graph.proofs.{Borne.{inside_nodes, stand_land}, Flagged.{flags_map, flags_of, flags_spread, remembered_as, remembered_still}, Kept.{covered_moved, keeps_landed}, NeedsNow.needing_landed}
-use Rattle.fst_graph.proofs.{Ranks.leveled_moved, RememberedRows.{landed_number, landed_remembered}, Sound.{rising_sound, as_many_lists, as_many_standings, view_gone}}
+use Rattle.fst_graph.proofs.{Ranks.leveled_moved, RememberedRows.{landed_number, landed_remembered}, Sound.{as_many_lists, as_many_standings, view_gone}}
 use Rattle.fst_graph.proofs.{Tallied.tallies_landed, sparse.Sparse.land.Goals.After-cascade-landed}
 use Rattle.fst_graph.proofs.sparse.Sparse.land.Goals as goal
 
 pub land_block-requires : goal.land_block-requires
 land_block-requires c = record {
-  rising = rising_sound c.self.invariant.0;
-  inside = subst (IsInside (patches_of c.self.inside.columns.heads.items)) (sym (as_many_lists c.self.invariant.0)) c.self.invariant.0.keeps.inside;
+  inside = subst (IsInside (patches_of c.self.inside.columns.heads.list.items)) (sym (as_many_lists c.self.invariant.0)) c.self.invariant.0.keeps.inside;
   listed =
       let lists = c.self.inside.lists.items in
       let long = sym (as_many_lists c.self.invariant.0) in
-      subst (λ ps. AreListed ps (length lists) (shelved lists)) (patches_in_nodes c.self.inside.columns.heads.items) (subst (λ n. AreListed (patches_in (nodes_of c.self.inside.columns.heads.items)) n (shelved lists)) long c.self.invariant.0.tallies.listed);
+      subst (λ ps. AreListed ps (length lists) (shelved lists)) (patches_in_nodes c.self.inside.columns.heads.list.items) (subst (λ n. AreListed (patches_in (nodes_of c.self.inside.columns.heads.list.items)) n (shelved lists)) long c.self.invariant.0.tallies.listed);
   flying =
       let s = c.self.inside in
-      let heads = s.columns.heads.items in
+      let heads = s.columns.heads.list.items in
       let b = c.args.block.0 in
       let T = c.self.invariant.0.tallies in
       elim (cases_lt b s.blocks) [
@@ -34,73 +33,73 @@ land_block-requires c = record {
             ap length none ∙ sym (c.flying_count-flying.ensures.outside (rw c.deref.ensures.value (omega (arith, past, T.standing.long))))
       ];
   idle = c.self.invariant.0.tallies.idle;
-  room = omega (arith, c.self.invariant.0.tallies.room, length-map c.self.inside.columns.heads.items node_of);
+  room = omega (arith, c.self.invariant.0.tallies.room, length-map c.self.inside.columns.heads.list.items node_of);
 }
 
 pub cascade-landed-requires : goal.cascade-landed-requires
 cascade-landed-requires c = record {
   start =
-      let heads = c.self.inside.columns.heads.items in
+      let heads = c.self.inside.columns.heads.list.items in
       let n = c.self.inside.numbers in
       let blocks = c.self.inside.blocks in
       let K = c.self.invariant.0.keeps in
       let T = c.self.invariant.0.tallies in
       rw (c.land_block.ensures.nodes, c.land_block.ensures.queued, ← patches_in_nodes heads, c.land_at.ensures.len, as_many_standings c.self.invariant.0)
       (starts_landed (nodes_of heads) n blocks c.args.block.0 (lawful_nodes heads n K.lawful) (inside_nodes heads blocks K.inside) T.settled);
-  linked = rw c.land_block.ensures.nodes (linked_landed (nodes_of c.self.inside.columns.heads.items) c.args.block.0 c.self.invariant.0.tallies.linked);
-  distinct = rw c.land_block.ensures.nodes (distinct_landed (nodes_of c.self.inside.columns.heads.items) c.args.block.0 c.self.invariant.0.tallies.distinct);
+  linked = rw c.land_block.ensures.nodes (linked_landed (nodes_of c.self.inside.columns.heads.list.items) c.args.block.0 c.self.invariant.0.tallies.linked);
+  distinct = rw c.land_block.ensures.nodes (distinct_landed (nodes_of c.self.inside.columns.heads.list.items) c.args.block.0 c.self.invariant.0.tallies.distinct);
   standing =
-      let heads = c.self.inside.columns.heads.items in
+      let heads = c.self.inside.columns.heads.list.items in
       let blocks = c.self.inside.blocks in
       let T = c.self.invariant.0.tallies in
       rw (c.land_block.ensures.nodes, c.land_at.ensures.len, as_many_standings c.self.invariant.0)
       (stand_land (nodes_of heads) blocks c.args.block.0 c.self.inside.standings.items c.land_at.new.standings.items (inside_nodes heads blocks c.self.invariant.0.keeps.inside) T.standing
       (λ d lt. c.land_at.ensures.inside d (omega (arith, lt, as_many_standings c.self.invariant.0))) (λ le. c.land_at.ensures.outside (omega (arith, le, as_many_standings c.self.invariant.0))));
-  listed = rw c.land_block.ensures.nodes (landed_map (lands c.args.block.0) (nodes_of c.self.inside.columns.heads.items) c.self.inside.landed.items (λ x. record { number = landed_number c.args.block.0 x.patch; pending = refl; forgotten = refl }) c.self.invariant.1.told);
+  listed = rw c.land_block.ensures.nodes (landed_map (lands c.args.block.0) (nodes_of c.self.inside.columns.heads.list.items) c.self.inside.landed.items (λ x. record { number = landed_number c.args.block.0 x.patch; pending = refl; forgotten = refl }) c.self.invariant.1.told);
   room =
       let same = ap length c.land_block.ensures.nodes in (
         search rules,
-        omega (arith, same, length-map c.land_block.new.heads.items node_of, length-map (nodes_of c.self.inside.columns.heads.items) (lands c.args.block.0), c.self.invariant.0.tallies.room, c.land_block.ensures.capacity),
-        omega (arith, same, length-map c.land_block.new.heads.items node_of, length-map (nodes_of c.self.inside.columns.heads.items) (lands c.args.block.0), length-map c.self.inside.columns.heads.items node_of, c.self.invariant.1.shelf),
+        omega (arith, same, length-map c.land_block.new.heads.list.items node_of, length-map (nodes_of c.self.inside.columns.heads.list.items) (lands c.args.block.0), c.self.invariant.0.tallies.room, c.land_block.ensures.capacity),
+        omega (arith, same, length-map c.land_block.new.heads.list.items node_of, length-map (nodes_of c.self.inside.columns.heads.list.items) (lands c.args.block.0), length-map c.self.inside.columns.heads.list.items node_of, c.self.invariant.1.shelf),
       );
 }
 
 -- the patches whose write landed, and what came to rest by that
-cascade : (c : After-cascade-landed) → IsCascadeOf (map (landed c.args.block.0) (patches_of c.self.inside.columns.heads.items)) (patches_of c.cascade-landed.new.heads.items)
+cascade : (c : After-cascade-landed) → IsCascadeOf (map (landed c.args.block.0) (patches_of c.self.inside.columns.heads.list.items)) (patches_of c.cascade-landed.new.heads.list.items)
 cascade c =
-    let heads = c.self.inside.columns.heads.items in
+    let heads = c.self.inside.columns.heads.list.items in
     let b = c.args.block.0 in
-    let was : patches_of c.land_block.new.heads.items ≡ map (landed b) (patches_of heads) =
-    seen c.land_block.new.heads.items _ c.land_block.ensures.nodes ∙ (patches_landed (nodes_of heads) b ∙ ap (map (landed b)) (patches_in_nodes heads)) in
-    subst (λ ps. IsCascadeOf ps (patches_of c.cascade-landed.new.heads.items)) was c.cascade-landed.ensures.placed
+    let was : patches_of c.land_block.new.heads.list.items ≡ map (landed b) (patches_of heads) =
+    seen c.land_block.new.heads.list.items _ c.land_block.ensures.nodes ∙ (patches_landed (nodes_of heads) b ∙ ap (map (landed b)) (patches_in_nodes heads)) in
+    subst (λ ps. IsCascadeOf ps (patches_of c.cascade-landed.new.heads.list.items)) was c.cascade-landed.ensures.placed
 
-settled : (c : After-cascade-landed) → AreSettled (nodes_of c.cascade-landed.new.heads.items) c.self.inside.blocks
-settled c = subst (AreSettled (nodes_of c.cascade-landed.new.heads.items)) (c.land_at.ensures.len ∙ as_many_standings c.self.invariant.0) c.cascade-landed.ensures.settled
+settled : (c : After-cascade-landed) → AreSettled (nodes_of c.cascade-landed.new.heads.list.items) c.self.inside.blocks
+settled c = subst (AreSettled (nodes_of c.cascade-landed.new.heads.list.items)) (c.land_at.ensures.len ∙ as_many_standings c.self.invariant.0) c.cascade-landed.ensures.settled
 
-spread : (c : After-cascade-landed) → IsSpreadOf (map (lands c.args.block.0) (nodes_of c.self.inside.columns.heads.items)) (nodes_of c.cascade-landed.new.heads.items)
-spread c = subst (λ ns. IsSpreadOf ns (nodes_of c.cascade-landed.new.heads.items)) c.land_block.ensures.nodes c.cascade-landed.ensures.spread
+spread : (c : After-cascade-landed) → IsSpreadOf (map (lands c.args.block.0) (nodes_of c.self.inside.columns.heads.list.items)) (nodes_of c.cascade-landed.new.heads.list.items)
+spread c = subst (λ ns. IsSpreadOf ns (nodes_of c.cascade-landed.new.heads.list.items)) c.land_block.ensures.nodes c.cascade-landed.ensures.spread
 
 -- none is marked by it
-same_flags : (c : After-cascade-landed) → flags_of (nodes_of c.cascade-landed.new.heads.items) ≡ flags_of (nodes_of c.self.inside.columns.heads.items)
+same_flags : (c : After-cascade-landed) → flags_of (nodes_of c.cascade-landed.new.heads.list.items) ≡ flags_of (nodes_of c.self.inside.columns.heads.list.items)
 same_flags c =
-    let nodes = nodes_of c.self.inside.columns.heads.items in
+    let nodes = nodes_of c.self.inside.columns.heads.list.items in
     let b = c.args.block.0 in
-    flags_spread (map (lands b) nodes) (nodes_of c.cascade-landed.new.heads.items) (spread c) ∙ flags_map (lands b) (λ x. ap (λ n. (n, x.forgotten)) (landed_number b x.patch)) nodes
+    flags_spread (map (lands b) nodes) (nodes_of c.cascade-landed.new.heads.list.items) (spread c) ∙ flags_map (lands b) (λ x. ap (λ n. (n, x.forgotten)) (landed_number b x.patch)) nodes
 
 pub overflow_sub-self : goal.overflow_sub-self
 overflow_sub-self c =
-    let new = c.cascade-landed.new.heads.items in
+    let new = c.cascade-landed.new.heads.list.items in
     let T = c.self.invariant.0.tallies in
-    landed_few c.self.inside.columns.heads.items c.land_block.new.heads.items new (lands c.args.block.0) c.self.inside.blocks c.self.inside.live c.cascade-landed.result c.self.inside.columns.ends.up.crossed.items c.land_block.ensures.nodes (λ x. refl) T.settled (settled c)
+    landed_few c.self.inside.columns.heads.list.items c.land_block.new.heads.list.items new (lands c.args.block.0) c.self.inside.blocks c.self.inside.live c.cascade-landed.result c.self.inside.columns.ends.up.crossed.items c.land_block.ensures.nodes (λ x. refl) T.settled (settled c)
     c.cascade-landed.ensures.landed c.self.invariant.0.beside
 
 pub invariant_of-self : goal.invariant_of-self
 invariant_of-self c =
-    let heads = c.self.inside.columns.heads.items in
+    let heads = c.self.inside.columns.heads.list.items in
     let nodes = nodes_of heads in
     let old = patches_of heads in
-    let mid = c.land_block.new.heads.items in
-    let new = c.cascade-landed.new.heads.items in
+    let mid = c.land_block.new.heads.list.items in
+    let new = c.cascade-landed.new.heads.list.items in
     let n = c.self.inside.numbers in
     let blocks = c.self.inside.blocks in
     let b = c.args.block.0 in
@@ -139,8 +138,8 @@ invariant_of-self c =
 pub returns-clause-landed : goal.returns-clause-landed
 returns-clause-landed c =
     let at = (goal.at.returns-clause-landed c).After-cascade-landed in
-    let heads = c.self.inside.columns.heads.items in
-    let new = c.cascade-landed.new.heads.items in
+    let heads = c.self.inside.columns.heads.list.items in
+    let new = c.cascade-landed.new.heads.list.items in
     let b = c.args.block.0 in
     let row = landed_remembered (is_forgotten_in (nodes_of heads)) (patches_of heads) c.self.inside.numbers (view_gone c.self.invariant) c.self.invariant.0.keeps.lawful b (patches_of new) (cascade at) in
     rw (← c.self.view_is, c.let_go.ensures)

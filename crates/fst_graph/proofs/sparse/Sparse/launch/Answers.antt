@@ -1,4 +1,4 @@
-use Rattle.std.proofs.Common.{◌≡◌, ◌<◌, ◌∙◌, Contains, map, sym, ap, subst, refl, arith, rules}
+use Rattle.std.proofs.Common.{◌≡◌, ◌<◌, ◌∙◌, map, sym, ap, subst, refl, arith, rules}
 use Rattle.std.proofs.lemmas.List.{length-map}
 use Rattle.fst_types.specs.{Writable.{IsWritable, IsWritableSet}, Writing.launched}
 use Rattle.fst_heads.specs.{Heads.patches_of, Keeps.Beside, Names.numbers_of, Nodes.{is_forgotten_in, node_of, nodes_of, patches_in}, Spreading.{IsRisenOf, launches}, Standings.ready_on}
@@ -8,22 +8,19 @@ use Rattle.fst_heads.proofs.{AtNumber.patches_in_nodes, Carried.risen_spread}
 use Rattle.fst_levels.proofs.{Resting.none_yet, Seen.lawful_nodes}
 use Rattle.fst_graph.proofs.{Flagged.{flags_map, flags_of, flags_spread, remembered_as, remembered_still}, Remembered.remembered_map, RememberedRows.launched_number, Risen.{beside_risen, landed_risen}}
 use Rattle.fst_graph.proofs.{Borne.inside_nodes, Kept.{covered_moved, keeps_launched, none_below_launched}, Launches.{some_chosen, first_named, none_first, block_found, block_some, chosen_ready, tallies_chosen}}
-use Rattle.fst_graph.proofs.{Marking.writable_rests, NeedsNow.needing_launched, Ranks.leveled_moved, Sound.{as_many_standings, rising_sound, view_gone}, sparse.Sparse.launch.Goals.{After-deref, After-launch-arg-2-1, After-launch}}
+use Rattle.fst_graph.proofs.{Marking.writable_rests, NeedsNow.needing_launched, Ranks.leveled_moved, Sound.{as_many_standings, view_gone}, sparse.Sparse.launch.Goals.{After-block_of, After-launch-arg-2-1, After-launch}}
 use Rattle.fst_graph.proofs.RememberedLooks as looks
 use Rattle.fst_graph.proofs.sparse.Sparse.launch.Goals as goal
 
-pub block_of-requires : goal.block_of-requires
-block_of-requires c = rw c.deref.ensures.value (rising_sound c.self.invariant.0)
-
 -- what is chosen may be written
-writable : (c : After-deref) → IsWritable (patches_of c.self.inside.columns.heads.items) c.requires.block
+writable : (c : After-block_of) → IsWritable (patches_of c.self.inside.columns.heads.list.items) c.requires.block
 writable c =
-    let heads = c.self.inside.columns.heads.items in
+    let heads = c.self.inside.columns.heads.list.items in
     (looks.writable (is_forgotten_in (nodes_of heads)) (patches_of heads) (view_gone c.self.invariant) c.self.invariant.0.keeps.lawful.on_disk_with_all c.requires.block).0 (subst (λ (v : Known). IsWritable v.heads c.requires.block) (sym c.self.view_is) c.requires.writable)
 
-choice : (c : After-deref) → IsWritableSet (patches_of c.self.inside.columns.heads.items) c.requires.block (numbers_of c.args.chosen.now)
+choice : (c : After-block_of) → IsWritableSet (patches_of c.self.inside.columns.heads.list.items) c.requires.block (numbers_of c.args.chosen.now)
 choice c =
-    let heads = c.self.inside.columns.heads.items in
+    let heads = c.self.inside.columns.heads.list.items in
     (looks.choice (is_forgotten_in (nodes_of heads)) (patches_of heads) (view_gone c.self.invariant) c.self.invariant.0.keeps.lawful.on_disk_with_all c.requires.block (numbers_of c.args.chosen.now)).0
     (subst (λ (v : Known). IsWritableSet v.heads c.requires.block (numbers_of c.args.chosen.now)) (sym c.self.view_is) c.requires.choice)
 
@@ -35,26 +32,26 @@ pub returns-in_default-block_of-clause-launched : goal.returns-in_default-block_
 returns-in_default-block_of-clause-launched c =
     let item = c.in-Some.ensures.item in
     let named = first_named c.args.chosen.now c.in-Some.first.now item.3.0 item.3.1 in
-    let chosen = choice (goal.at.returns-in_default-block_of-clause-launched c).After-deref in
-    absurd (block_some (patches_of c.self.inside.columns.heads.items) c.requires.block (numbers_of c.args.chosen.now) c.in-Some.first.now.0 chosen named (λ p h e. c.in_default-block_of.ensures p (subst (λ hs. Contains (patches_of hs) p) (sym c.deref.ensures.value) h) e))
+    let chosen = choice (goal.at.returns-in_default-block_of-clause-launched c).After-block_of in
+    absurd (block_some (patches_of c.self.inside.columns.heads.list.items) c.requires.block (numbers_of c.args.chosen.now) c.in-Some.first.now.0 chosen named (λ p h e. c.in_default-block_of.ensures p h e))
 
 -- it is of the block of the first
 here : (c : After-launch-arg-2-1) → c.in-Some-block_of.block ≡ c.requires.block
 here c =
     let item = c.in-Some.ensures.item in
     let named = first_named c.args.chosen.now c.in-Some.first.now item.3.0 item.3.1 in
-    block_found (patches_of c.self.inside.columns.heads.items) c.requires.block c.in-Some-block_of.block (numbers_of c.args.chosen.now) c.in-Some.first.now.0 (choice (goal.at.launch-requires c).After-deref) named
-    (λ p h e. c.in-Some-block_of.ensures p (subst (λ hs. Contains (patches_of hs) p) (sym c.deref.ensures.value) h) e)
+    block_found (patches_of c.self.inside.columns.heads.list.items) c.requires.block c.in-Some-block_of.block (numbers_of c.args.chosen.now) c.in-Some.first.now.0 (choice (goal.at.launch-requires c).After-block_of) named
+    (λ p h e. c.in-Some-block_of.ensures p h e)
 
-nodes_writable : (c : After-launch-arg-2-1) → IsWritable (patches_in (nodes_of c.self.inside.columns.heads.items)) c.in-Some-block_of.block
-nodes_writable c = rw (patches_in_nodes c.self.inside.columns.heads.items, here c) (writable (goal.at.launch-requires c).After-deref)
+nodes_writable : (c : After-launch-arg-2-1) → IsWritable (patches_in (nodes_of c.self.inside.columns.heads.list.items)) c.in-Some-block_of.block
+nodes_writable c = rw (patches_in_nodes c.self.inside.columns.heads.list.items, here c) (writable (goal.at.launch-requires c).After-block_of)
 
 -- it is what is ready of that block
-ready : (c : After-launch-arg-2-1) → numbers_of c.args.chosen.now ≡ ready_on c.in-Some-block_of.block (nodes_of c.self.inside.columns.heads.items)
+ready : (c : After-launch-arg-2-1) → numbers_of c.args.chosen.now ≡ ready_on c.in-Some-block_of.block (nodes_of c.self.inside.columns.heads.list.items)
 ready c =
     let s = c.self.inside in
-    chosen_ready (nodes_of s.columns.heads.items) s.numbers s.blocks c.in-Some-block_of.block (numbers_of c.args.chosen.now) (lawful_nodes s.columns.heads.items s.numbers c.self.invariant.0.keeps.lawful) c.self.invariant.0.tallies.settled
-    (rw (patches_in_nodes s.columns.heads.items, here c) (choice (goal.at.launch-requires c).After-deref))
+    chosen_ready (nodes_of s.columns.heads.list.items) s.numbers s.blocks c.in-Some-block_of.block (numbers_of c.args.chosen.now) (lawful_nodes s.columns.heads.list.items s.numbers c.self.invariant.0.keeps.lawful) c.self.invariant.0.tallies.settled
+    (rw (patches_in_nodes s.columns.heads.list.items, here c) (choice (goal.at.launch-requires c).After-block_of))
 
 pub launch-requires : goal.launch-requires
 launch-requires c =
@@ -67,13 +64,13 @@ launch-requires c =
       linked = T.linked;
       distinct = T.distinct;
       chosen = ready c;
-      room = (T.idle, omega (arith, T.room, length-map s.columns.heads.items node_of));
+      room = (T.idle, omega (arith, T.room, length-map s.columns.heads.list.items node_of));
     }
 
 inside : (c : After-launch-arg-2-1) → c.in-Some-block_of.block < c.self.inside.blocks
 inside c =
     let s = c.self.inside in
-    (writable_rests (nodes_of s.columns.heads.items) s.blocks c.in-Some-block_of.block s.standings.items none_yet (inside_nodes s.columns.heads.items s.blocks c.self.invariant.0.keeps.inside) c.self.invariant.0.tallies.standing (nodes_writable c)).0
+    (writable_rests (nodes_of s.columns.heads.list.items) s.blocks c.in-Some-block_of.block s.standings.items none_yet (inside_nodes s.columns.heads.list.items s.blocks c.self.invariant.0.keeps.inside) c.self.invariant.0.tallies.standing (nodes_writable c)).0
 
 pub index_mut-requires : goal.index_mut-requires
 index_mut-requires c = omega (arith, inside (goal.at.index_mut-requires c).After-launch-arg-2-1, as_many_standings c.self.invariant.0)
@@ -82,18 +79,18 @@ pub clear-requires : goal.clear-requires
 clear-requires c = omega (arith, inside (goal.at.clear-requires c).After-launch-arg-2-1, c.self.invariant.0.needing.long)
 
 -- none is marked by it
-same_flags : (c : After-launch) → flags_of (nodes_of c.launch.new.heads.items) ≡ flags_of (nodes_of c.self.inside.columns.heads.items)
+same_flags : (c : After-launch) → flags_of (nodes_of c.launch.new.heads.list.items) ≡ flags_of (nodes_of c.self.inside.columns.heads.list.items)
 same_flags c =
-    let nodes = nodes_of c.self.inside.columns.heads.items in
+    let nodes = nodes_of c.self.inside.columns.heads.list.items in
     let chosen = numbers_of c.args.chosen.now in
     let mid = map (launches chosen) nodes in
-    flags_spread mid (nodes_of c.launch.new.heads.items) (risen_spread mid (nodes_of c.launch.new.heads.items) c.launch.ensures.spread)
+    flags_spread mid (nodes_of c.launch.new.heads.list.items) (risen_spread mid (nodes_of c.launch.new.heads.list.items) c.launch.ensures.spread)
     ∙ flags_map (launches chosen) (λ x. ap (λ n. (n, x.forgotten)) (launched_number chosen x.patch)) nodes
 
 pub invariant_of-self-2 : goal.invariant_of-self-2
 invariant_of-self-2 c =
-    let heads = c.self.inside.columns.heads.items in
-    let later = c.launch.new.heads.items in
+    let heads = c.self.inside.columns.heads.list.items in
+    let later = c.launch.new.heads.list.items in
     let n = c.self.inside.numbers in
     let blocks = c.self.inside.blocks in
     let chosen = numbers_of c.args.chosen.now in
@@ -102,8 +99,8 @@ invariant_of-self-2 c =
     let K = c.self.invariant.0.keeps in
     let T = c.self.invariant.0.tallies in
     let H = lawful_nodes heads n K.lawful in
-    let W : IsWritable (patches_of heads) b = rw (here at) (writable (goal.at.invariant_of-self-2 c).After-deref) in
-    let C : IsWritableSet (patches_of heads) b chosen = rw (here at) (choice (goal.at.invariant_of-self-2 c).After-deref) in
+    let W : IsWritable (patches_of heads) b = rw (here at) (writable (goal.at.invariant_of-self-2 c).After-block_of) in
+    let C : IsWritableSet (patches_of heads) b chosen = rw (here at) (choice (goal.at.invariant_of-self-2 c).After-block_of) in
     let new = c.launch.ensures.launched in
     let kept = keeps_launched _ n blocks b chosen c.self.inside.columns.ends.up.walk.marks K W C in
     let settled = c.launch.ensures.settled blocks T.settled in
@@ -132,7 +129,7 @@ invariant_of-self-2 c =
 
 pub returns-clause-launched : goal.returns-clause-launched
 returns-clause-launched c =
-    let heads = c.self.inside.columns.heads.items in
+    let heads = c.self.inside.columns.heads.list.items in
     let chosen = numbers_of c.args.chosen.now in
-    let row = remembered_as heads c.launch.new.heads.items (same_flags (goal.at.returns-clause-launched c).After-launch) c.launch.ensures.launched ∙ remembered_map (is_forgotten_in (nodes_of heads)) (launched chosen) (launched_number chosen) (patches_of heads) in
+    let row = remembered_as heads c.launch.new.heads.list.items (same_flags (goal.at.returns-clause-launched c).After-launch) c.launch.ensures.launched ∙ remembered_map (is_forgotten_in (nodes_of heads)) (launched chosen) (launched_number chosen) (patches_of heads) in
     rw (← c.self.view_is, c.let_go.ensures) (record { row = row; numbers = refl; blocks = refl; groups = refl; prepared = refl })

@@ -9,26 +9,23 @@ use Rattle.fst_graph.proofs.sparse.Sparse.mark_landed.Goals.{After-flag_all}
 use Rattle.fst_types.specs.declared.place.Place.TheVariants as place
 use Rattle.fst_graph.proofs.sparse.Sparse.mark_landed.Goals as goal
 
-pub flag_all-requires-clause-rising : goal.flag_all-requires-clause-rising
-flag_all-requires-clause-rising c = rising_sound c.self.invariant.0
-
 pub overflow_cast-result : goal.overflow_cast-result
 overflow_cast-result c = omega (arith, landed_bound c.self.invariant, c.len-many.ensures, c.self.inside.landed.ok.0)
 
 -- the heads with the marks, and their patches
-nodes_now : (c : After-flag_all) → nodes_of c.flag_all.new.heads.items ≡ map (flags c.self.inside.landed.items) (nodes_of c.self.inside.columns.heads.items)
-nodes_now c = c.flag_all.ensures.nodes ∙ ap (λ row. map (flags row) (nodes_of c.self.inside.columns.heads.items)) c.deref.ensures.value
+nodes_now : (c : After-flag_all) → nodes_of c.flag_all.new.heads.list.items ≡ map (flags c.self.inside.landed.items) (nodes_of c.self.inside.columns.heads.list.items)
+nodes_now c = c.flag_all.ensures.nodes ∙ ap (λ row. map (flags row) (nodes_of c.self.inside.columns.heads.list.items)) c.deref.ensures.value
 
-patches_now : (c : After-flag_all) → patches_of c.flag_all.new.heads.items ≡ patches_of c.self.inside.columns.heads.items
-patches_now c = seen c.flag_all.new.heads.items _ (nodes_now c) ∙ (patches_flagged (nodes_of c.self.inside.columns.heads.items) c.self.inside.landed.items ∙ patches_in_nodes c.self.inside.columns.heads.items)
+patches_now : (c : After-flag_all) → patches_of c.flag_all.new.heads.list.items ≡ patches_of c.self.inside.columns.heads.list.items
+patches_now c = seen c.flag_all.new.heads.list.items _ (nodes_now c) ∙ (patches_flagged (nodes_of c.self.inside.columns.heads.list.items) c.self.inside.landed.items ∙ patches_in_nodes c.self.inside.columns.heads.list.items)
 
-still_long : (c : After-flag_all) → length c.flag_all.new.heads.items ≡ length c.self.inside.columns.heads.items
-still_long c = omega (arith, ap length (patches_now c), length-map c.flag_all.new.heads.items patch_of, length-map c.self.inside.columns.heads.items patch_of)
+still_long : (c : After-flag_all) → length c.flag_all.new.heads.list.items ≡ length c.self.inside.columns.heads.list.items
+still_long c = omega (arith, ap length (patches_now c), length-map c.flag_all.new.heads.list.items patch_of, length-map c.self.inside.columns.heads.list.items patch_of)
 
 pub invariant_of-self : goal.invariant_of-self
 invariant_of-self c =
     let at = (goal.at.invariant_of-self c).After-flag_all in
-    let heads = c.self.inside.columns.heads.items in
+    let heads = c.self.inside.columns.heads.list.items in
     let n = c.self.inside.numbers in
     let S = c.self.invariant.0 in
     let R = c.self.invariant.1 in
@@ -59,13 +56,13 @@ invariant_of-self c =
 pub returns : goal.returns
 returns c =
     let at = (goal.at.returns c).After-flag_all in
-    let heads = c.self.inside.columns.heads.items in
+    let heads = c.self.inside.columns.heads.list.items in
     let nodes = nodes_of heads in
     let row = c.self.inside.landed.items in
     let S = c.self.invariant.0 in
     let count : c.len-many.result ≡ count_by (λ p. is_at p.place place.Disk) (remembered_of heads) = omega (arith, landed_long c.self.invariant, c.len-many.ensures, c.self.inside.landed.ok.0) in
-    let left : remembered_of c.flag_all.new.heads.items ≡ filter is_live (patches_of heads) =
-    ap (λ ns. remembered (is_forgotten_in ns) (patches_of c.flag_all.new.heads.items)) (nodes_now at)
+    let left : remembered_of c.flag_all.new.heads.list.items ≡ filter is_live (patches_of heads) =
+    ap (λ ns. remembered (is_forgotten_in ns) (patches_of c.flag_all.new.heads.list.items)) (nodes_now at)
     ∙ (ap (remembered (is_forgotten_in (map (flags row) nodes))) (patches_now at ∙ sym (patches_in_nodes heads))
     ∙ (flagged_left nodes row (rising_nodes heads (rising_sound S)) c.self.invariant.1.told c.self.inside.blocks S.tallies.settled ∙ ap (filter is_live) (patches_in_nodes heads))) in
     rw (← c.self.view_is, c.let_go.ensures)

@@ -3,8 +3,8 @@ use Rattle.fst_heads.proofs.Making.{keeps_none}
 use Rattle.fst_graph.proofs.{Kept.keeps_walked, Tallied.tallies_from}
 use Rattle.fst_graph.proofs.sparse.Sparse.new.Goals as goal
 
-pub invariant_of-result : goal.invariant_of-result
-invariant_of-result c =
+pub invariant_of-result-2 : goal.invariant_of-result-2
+invariant_of-result-2 c =
     let ends = c.in-Ok-new-3.ensures in
     let K = keeps_none c.args.numbers c.args.shape.blocks (omega (arith, c.ranges.numbers.fits)) in (
       record {

@@ -17,21 +17,21 @@ picked patches standings blocks (Some b) long inside M some = picked_some patche
 
 pub returns-clause-least : goal.returns-clause-least
 returns-clause-least c =
-    let heads = c.self.inside.columns.heads.items in
+    let heads = c.self.inside.columns.heads.list.items in
     let T = c.self.invariant.0.tallies in
     let M = subst (λ ps. AreMarked ps c.self.inside.blocks c.self.inside.standings.items) (patches_in_nodes heads) T.marked in
     rw (← c.self.view_is) (pick _ (patches_of heads) (view_gone c.self.invariant) c.self.invariant.0.keeps.lawful.on_disk_with_all (Some c.in-Some.block.0) (picked (patches_of heads) c.self.inside.standings.items c.self.inside.blocks (Some c.in-Some.block) T.standing.long c.self.invariant.0.keeps.inside M (rw (← c.deref.ensures.value) c.in-Some.ensures)))
 
 pub returns-in_default-clause-least : goal.returns-in_default-clause-least
 returns-in_default-clause-least c =
-    let heads = c.self.inside.columns.heads.items in
+    let heads = c.self.inside.columns.heads.list.items in
     let T = c.self.invariant.0.tallies in
     let M = subst (λ ps. AreMarked ps c.self.inside.blocks c.self.inside.standings.items) (patches_in_nodes heads) T.marked in
     rw (← c.self.view_is) (pick _ (patches_of heads) (view_gone c.self.invariant) c.self.invariant.0.keeps.lawful.on_disk_with_all None (picked (patches_of heads) c.self.inside.standings.items c.self.inside.blocks None T.standing.long c.self.invariant.0.keeps.inside M (rw (← c.deref.ensures.value) c.in_default.ensures)))
 
 pub returns-in_default-clause-never_stuck : goal.returns-in_default-clause-never_stuck
 returns-in_default-clause-never_stuck c =
-    let heads = c.self.inside.columns.heads.items in
+    let heads = c.self.inside.columns.heads.list.items in
     let T = c.self.invariant.0.tallies in
     let K = c.self.invariant.0.keeps in
     let M = subst (λ ps. AreMarked ps c.self.inside.blocks c.self.inside.standings.items) (patches_in_nodes heads) T.marked in

@@ -12,7 +12,7 @@ lift_one-requires-clause-inside c = rw c.loop-at.invariant.long c.requires.insid
 
 pub loop-at-preserved : goal.loop-at-preserved
 loop-at-preserved c =
-    let heads = c.args.heads.now in
+    let heads = c.args.heads.now.list.items in
     let walk = c.args.walk.now in
     let at = c.loop-at.at in
     let n = number_at heads c.index_at.result in
@@ -22,4 +22,4 @@ loop-at-preserved c =
     let index : HasIndex heads n c.index_at.result = index_at heads c.index_at.result (omega (arith, c.index_at.ensures.inside, c.requires.long)) in
     let here : get_or met at 0 ≡ n = met_at heads walk at inside ∙ ap (number_at heads) (sym c.index_at.ensures.index) in
     subst (λ ms. IsLifted (patches_of heads) ms c.args.to c.args.self.now c.lift_one.new.self) (sym (take_more met at 0 (omega (arith, inside, long_met heads walk)) ∙ ap (λ m. take at met ++ m ∷ []) here))
-    (lifted_more (patches_of heads) (take at met) n c.args.to c.args.self.now c.loop-at.self c.lift_one.new.self (hard_told heads c.requires.rising n c.index_at.result index) c.loop-at.invariant c.lift_one.ensures)
+    (lifted_more (patches_of heads) (take at met) n c.args.to c.args.self.now c.loop-at.self c.lift_one.new.self (hard_told heads c.args.heads.now.rising n c.index_at.result index) c.loop-at.invariant c.lift_one.ensures)

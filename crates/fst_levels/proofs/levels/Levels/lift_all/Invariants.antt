@@ -5,4 +5,4 @@ use Rattle.fst_levels.proofs.levels.Levels.lift_all.Given as goal
 
 -- those met first are lifted
 abbrev pub invariant-loop-at : goal.invariant-loop-at
-invariant-loop-at l = IsLifted (patches_of l.heads) (take l.at (numbers_met l.heads l.walk)) l.to l.fn.self l.self
+invariant-loop-at l = IsLifted (patches_of l.heads.list.items) (take l.at (numbers_met l.heads.list.items l.walk)) l.to l.fn.self l.self

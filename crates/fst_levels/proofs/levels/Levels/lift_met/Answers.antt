@@ -8,14 +8,14 @@ use Rattle.fst_levels.proofs.levels.Levels.lift_met.Goals as goal
 
 pub returns-then-rise-clause-leveled : goal.returns-then-rise-clause-leveled
 returns-then-rise-clause-leveled c =
-    let heads = c.args.heads.now in
+    let heads = c.args.heads.now.list.items in
     let may = c.requires.may c.if-rise.true in
     rw (ap (λ v. v.ranks) c.self.view_is, ap (λ v. v.floors) c.self.view_is, ap (λ v. v.room) c.self.view_is)
     (floored (patches_of heads) c.requires.disk (length c.args.self.now.floors) c.args.block c.args.rise.level (numbers_met heads c.args.walk.now) c.args.self.now c.lift_all.new.self c.requires.leveled may c.requires.inside.0
     (λ n k.
     let live = may.meets.live n k in
     let at = index_in heads live.patch live.head in
-    hard_told heads c.requires.rising n at.0 (subst (λ m. HasIndex heads m at.0) live.numbered (patch_index heads live.patch at.0 at.1 at.2)))
+    hard_told heads c.args.heads.now.rising n at.0 (subst (λ m. HasIndex heads m at.0) live.numbered (patch_index heads live.patch at.0 at.1 at.2)))
     c.lift_all.ensures)
 
 pub returns-else-rise-clause-below : goal.returns-else-rise-clause-below
@@ -35,7 +35,7 @@ returns-else-rise-clause-still c = grind (arith, common_steps)
 
 pub returns-then-rise-clause-below : goal.returns-then-rise-clause-below
 returns-then-rise-clause-below c n low =
-    rw (ap (λ v. v.ranks) c.self.view_is) (lifted_within (patches_of c.args.heads.now) (numbers_met c.args.heads.now c.args.walk.now) c.args.rise.level c.args.self.now c.lift_all.new.self c.lift_all.ensures n low)
+    rw (ap (λ v. v.ranks) c.self.view_is) (lifted_within (patches_of c.args.heads.now.list.items) (numbers_met c.args.heads.now.list.items c.args.walk.now) c.args.rise.level c.args.self.now c.lift_all.new.self c.lift_all.ensures n low)
 
 pub returns-then-rise-clause-lifted : goal.returns-then-rise-clause-lifted
 returns-then-rise-clause-lifted c = grind (arith, common_steps)

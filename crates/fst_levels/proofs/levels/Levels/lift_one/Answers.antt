@@ -6,25 +6,25 @@ use Rattle.fst_types.specs.Patches.{IsOn}
 use Rattle.fst_levels.proofs.levels.Levels.lift_one.Goals as goal
 
 pub raise-requires-clause-rising : goal.raise-requires-clause-rising
-raise-requires-clause-rising c = ranks_rise c.args.heads.now c.self.inside.ranks.items c.requires.rising (ap (λ v. map (λ r. r.number) v.ranks) c.self.view_is ∙ c.requires.aligned)
+raise-requires-clause-rising c = ranks_rise c.args.heads.now.list.items c.self.inside.ranks.items c.args.heads.now.rising (ap (λ v. map (λ r. r.number) v.ranks) c.self.view_is ∙ c.requires.aligned)
 
 pub raise_floor-requires : goal.raise_floor-requires
 raise_floor-requires c k on =
-    let heads = c.args.heads.now in
-    let here = c.index-heads-index.result in
-    let inside = c.requires.inside (patch_of (get_or heads c.args.index here)) k (patch_at heads c.args.index here c.requires.index) (subst (λ (h : Head). IsOn (patch_of h) k) c.index-heads-index.is on) in
+    let heads = c.args.heads.now.list.items in
+    let here = c.index.result.now in
+    let inside = c.requires.inside (patch_of (get_or heads c.args.index here)) k (patch_at heads c.args.index here c.requires.index) (subst (λ (h : Head). IsOn (patch_of h) k) c.index.ensures on) in
     omega (arith, inside, ap (λ v. length v.floors) c.self.view_is)
 
 pub returns : goal.returns
 returns c =
-    let heads = c.args.heads.now in
+    let heads = c.args.heads.now.list.items in
     let s = c.args.index in
     rw (← c.self.view_is)
-    (lifted_one heads c.requires.rising s c.requires.index c.args.to (record { ranks = c.self.inside.ranks.items; floors = c.self.inside.floors.items; room = c.self.inside.room }) (record { ranks = c.raise.new.ranks.items; floors = c.raise_floor.new.floors.items; room = c.self.inside.room }) (ap (λ v. map (λ r. r.number) v.ranks) c.self.view_is ∙ c.requires.aligned)
+    (lifted_one heads c.args.heads.now.rising s c.requires.index c.args.to (record { ranks = c.self.inside.ranks.items; floors = c.self.inside.floors.items; room = c.self.inside.room }) (record { ranks = c.raise.new.ranks.items; floors = c.raise_floor.new.floors.items; room = c.self.inside.room }) (ap (λ v. map (λ r. r.number) v.ranks) c.self.view_is ∙ c.requires.aligned)
     (c.raise.ensures.numbers)
     (c.raise_floor.ensures.long) refl
     c.raise.ensures.raised
     c.raise.ensures.beside
     c.raise.ensures.rest
-    c.index-heads-index.result c.index-heads-index.is c.raise_floor.ensures.raised
+    c.index.result.now c.index.ensures c.raise_floor.ensures.raised
     c.raise_floor.ensures.rest)

@@ -6,18 +6,18 @@ use Rattle.fst_levels.proofs.{Highest.{max_first, max_second}, Lowered.lowered_i
 use Rattle.fst_levels.proofs.levels.Levels.lower.Goals as goal
 
 pub raise-requires-clause-rising : goal.raise-requires-clause-rising
-raise-requires-clause-rising c = ranks_rise c.args.heads.now c.self.inside.ranks.items c.requires.rising (ap (λ v. map (λ r. r.number) v.ranks) c.self.view_is ∙ c.requires.leveled.aligned)
+raise-requires-clause-rising c = ranks_rise c.args.heads.now.list.items c.self.inside.ranks.items c.args.heads.now.rising (ap (λ v. map (λ r. r.number) v.ranks) c.self.view_is ∙ c.requires.leveled.aligned)
 
 pub returns-then-level-clause-leveled : goal.returns-then-level-clause-leveled
 returns-then-level-clause-leveled c =
-    let heads = c.args.heads.now in
+    let heads = c.args.heads.now.list.items in
     let s = c.args.index in
     let old : Leveling = record { ranks = c.self.inside.ranks.items; floors = c.self.inside.floors.items; room = c.self.inside.room } in
     let new : Leveling = record { ranks = c.raise.new.ranks.items; floors = c.self.inside.floors.items; room = c.self.inside.room } in
     let first = max_first c.greatest-below.result c.own_level.result in
     let second = max_second c.greatest-below.result c.own_level.result in
     rw (← c.self.view_is)
-    (lowered_is_leveled heads c.requires.rising s c.requires.index c.index-heads-index.result c.index-heads-index.is (length old.floors) c.max-level.result old new
+    (lowered_is_leveled heads c.args.heads.now.rising s c.requires.index c.index-head.result.now c.index-head.ensures (length old.floors) c.max-level.result old new
     (λ q named.
     let under = c.greatest-below.ensures q (subst (λ row. Contains row q) (sym c.as_slice.ensures) named) in
     subst (λ (v : Leveling). level_of v.ranks q ≤ c.max-level.result) (sym c.self.view_is) (omega (arith, under, first, c.max-level.ensures)))

@@ -7,7 +7,7 @@ use Rattle.fst_levels.proofs.needs.Needs.put.Goals as goal
 
 pub loop-number-preserved : goal.loop-number-preserved
 loop-number-preserved c =
-    let patches = patches_of c.args.heads.now in
+    let patches = patches_of c.args.heads.now.list.items in
     let b = c.args.self.now.block in
     let row = c.args.row.now in
     let at = c.loop-number.number-index in

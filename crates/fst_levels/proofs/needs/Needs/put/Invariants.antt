@@ -9,6 +9,6 @@ abbrev pub invariant-loop-number : goal.invariant-loop-number
 invariant-loop-number l = record {
   block : l.self.block ≡ l.fn.self.block;
   room : length l.row ≤ l.self.room + l.number-index;
-  put : IsPut (patches_of l.heads) l.fn.self.block (take l.number-index l.row) grade.Hard l.fn.self.lists l.self.lists;
+  put : IsPut (patches_of l.heads.list.items) l.fn.self.block (take l.number-index l.row) grade.Hard l.fn.self.lists l.self.lists;
   ways : l.self.ways ≡ l.fn.self.ways;
 }

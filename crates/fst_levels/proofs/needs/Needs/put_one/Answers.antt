@@ -27,7 +27,7 @@ returns-then-not-is_spared-clause-put c =
     let new = c.push_reserved.new.self in
     let lt : s.block < length ls = omega (arith, c.requires.block, ap (λ (v : Needing). v.block) c.self.view_is, ap (λ (v : Needing). length v.lists) c.self.view_is, length-map ls numbers_in) in
     rw (← c.self.view_is)
-    (put_joins (patches_of c.args.heads.now) s.block c.args.number (map numbers_in ls) (map numbers_in (set ls s.block new))
+    (put_joins (patches_of c.args.heads.now.list.items) s.block c.args.number (map numbers_in ls) (map numbers_in (set ls s.block new))
     (length-map (set ls s.block new) numbers_in ∙ (length-set ls s.block new ∙ sym (length-map ls numbers_in)))
     (λ k other. told_beside numbers_in ls s.block new k [] other)
     (told_here numbers_in ls s.block new [] lt ∙ (ap (map (λ (q : Need). q.number)) c.push_reserved.ensures.items ∙ (map_push (λ (q : Need). q.number) was.items _ ∙ ap (λ ns. ns ++ c.args.number ∷ []) (sym (told_was numbers_in ls s.block was [] lt c.index_mut-list.ensures.value))))))
@@ -41,5 +41,5 @@ returns-else-not-is_spared-clause-put c =
     let same = map-set_same numbers_in ls s.block was was (ap numbers_in c.index_mut-list.ensures.value) in
     let row = ap (map (λ (q : Need). q.number)) c.deref.ensures.value ∙ sym (told_was numbers_in ls s.block was [] lt c.index_mut-list.ensures.value) in
     rw (← c.self.view_is, same)
-    (put_spared (patches_of c.args.heads.now) s.block c.args.number (map numbers_in ls)
-    (subst (λ ns. IsSpared (patches_of c.args.heads.now) s.block ns c.args.number) row (c.is_spared.ensures c.if-not-is_spared.false)))
+    (put_spared (patches_of c.args.heads.now.list.items) s.block c.args.number (map numbers_in ls)
+    (subst (λ ns. IsSpared (patches_of c.args.heads.now.list.items) s.block ns c.args.number) row (c.is_spared.ensures c.if-not-is_spared.false)))

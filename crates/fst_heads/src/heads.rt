@@ -1,10 +1,17 @@
-//! Where the head with a number stands.
+//! The heads of all patches, in the order of their numbers, and where the one with a number stands.
 
 ghost use Rattle.std.specs.Prelude.{IfSome, IfNone};
 ghost use Rattle.fst_heads.specs.Heads.{IsRising};
 ghost use Rattle.fst_heads.specs.Indices.{HasIndex, HasNone};
 
 use crate::head::Head;
+
+/// Heads in the order of their numbers, which rise: no two have the same.
+#[derive(Drop)]
+pub struct Heads {
+    pub list: Vec<Head>,
+    pub ghost rising: { IsRising list.items },
+}
 
 // The index of the head with this number, where none of those behind it is missing: then it is as far from the last index as
 // its number is from the last number.
@@ -66,20 +73,21 @@ fn index_by_guess(heads: &[Head], number: u32) -> Option<usize>
     None
 }
 
-/// The index of the head with this number.
-pub fn index_of(heads: &[Head], number: u32) -> Option<usize>
-    requires { IsRising heads.now }
-    ensures found { IfSome result (λ index. HasIndex heads.now number index) }
-    ensures none { IfNone result (HasNone heads.now number) }
-{
-    if let Some(index) = index_from_end(heads, number) {
-        return Some(index);
-    }
-    if let Some(index) = index_by_guess(heads, number) {
-        return Some(index);
-    }
-    match heads.binary_search_by_key(&number, |head| head.number) {
-        Ok(index) => Some(index),
-        Err(_) => None,
+impl Heads {
+    /// The index of the head with this number.
+    pub fn index_of(&self, number: u32) -> Option<usize>
+        ensures found { IfSome result (λ index. HasIndex self.now.list.items number index) }
+        ensures none { IfNone result (HasNone self.now.list.items number) }
+    {
+        if let Some(index) = index_from_end(&self.list, number) {
+            return Some(index);
+        }
+        if let Some(index) = index_by_guess(&self.list, number) {
+            return Some(index);
+        }
+        match self.list.binary_search_by_key(&number, |head| head.number) {
+            Ok(index) => Some(index),
+            Err(_) => None,
+        }
     }
 }
