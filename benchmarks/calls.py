@@ -293,6 +293,24 @@ def cycles():
     return made
 
 
+def cycle_in_a_crowd():
+    """A cycle refused 500 times, where each of 6,000 changes comes after four of 600 open gates, and 20,000 after those."""
+    made = Script(1, 256)
+    gates = [made.gate() for _ in range(600)]
+    recent = []
+    for i in range(6_000):
+        if i % 300 == 0 and recent:
+            gates.append(made.gate())
+            for name in made.dice.sample(recent[-600:], 60):
+                made.depend(gates[-1], name)
+        recent.append(made.patch(0, made.dice.randrange(256), made.dice.sample(gates[-600:], 4)))
+    for i in range(20_000):
+        recent.append(made.patch(0, made.dice.randrange(240), recent[-1 - made.dice.randrange(4) :][:1]))
+        if i % 40 == 0:
+            made.depend(made.dice.choice(gates[-20:]), made.dice.choice(recent[-600:]))
+    return made
+
+
 def cycle_over_a_chain():
     """A cycle refused again and again, at or near the end of a chain of 20,000 patches over the gate."""
     made = Script(64)
@@ -321,7 +339,7 @@ def hot():
 SHAPES = [
     forget_each, forget_few, forget_nothing, after_old_ones, places, write_beside, refused,
     forget_one, choose_in_flight, picks, full, one_clean, groups_ahead, groups_of_one_block, groups_behind_a_chain,
-    group_before_another, depend_below_many, cycles, cycle_over_a_chain, hot,
+    group_before_another, depend_below_many, cycles, cycle_in_a_crowd, cycle_over_a_chain, hot,
 ]
 
 
