@@ -18,6 +18,7 @@ mod Sound
 mod Shutting
 mod PutNow
 mod Made
+mod GreatestNumber
 mod Tallied
 mod Borne
 mod Risen

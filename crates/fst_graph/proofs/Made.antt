@@ -7,7 +7,7 @@ use Rattle.fst_types.specs.{Patches.{Patch, IsOn, OpenGate}, Refusals.NoneHolds}
 use Rattle.fst_heads.specs.{Covers.{Covering, IsPut as IsCovered}, Heads.{patches_of, IsRising}, Keeps.IsInside, Lists.{entry_of, HasRoomInList}, Nodes.{node_of, nodes_of, at_number, gains_names, linked_to, pending_in, AreSettled}}
 use Rattle.fst_heads.specs.{Pendings.{is_pending, sums_of}, Standings.{entered, is_held_on, is_ready_on}, Tests.is_hard_kind, declared.{head.Head.Head, heads.Heads.Heads}}
 use Rattle.fst_heads.specs.{declared.lists.Listed.Listed, declared.pending.{Pending.Pending, Sums.Sums}, declared.standing.Standing.Standing}
-use Rattle.fst_levels.specs.{Ancestors.{AreOver, GoesUnder}, Leveling.{IsLeveled, Leveling, jump_of, level_of, no_ancestry, floor_of, top_level}, Lifting.{IsRise, MayLift}, Needing.{IsNoted, IsPut, Needing}, Sights.Sees, Walks.{Trail, numbers_met}, declared.levels.{Ancestry.Ancestry, Rank.Rank, Rise.Rise}, declared.sight.Sight.Sight}
+use Rattle.fst_levels.specs.{Ancestors.{GoesUnder}, Leveling.{IsLeveled, Leveling, level_of, no_ancestry, floor_of, top_level}, Lifting.{IsRise, MayLift}, Needing.{IsNoted, IsPut, Needing}, Sights.Sees, Walks.{Trail, numbers_met}, declared.levels.{Ancestry.Ancestry, Rise.Rise}, declared.sight.Sight.Sight}
 use Rattle.fst_walks.specs.declared.ends.Ends.{Ends}
 use Rattle.fst_graph.specs.declared.columns.Columns.{Columns}
 use Rattle.fst_graph.specs.declared.sparse.Sparse.TheInside.{Inside}
@@ -39,7 +39,7 @@ pub named_patches : (heads new : List Head) (g : ℕ) (names : List ℕ) → nod
 named_patches heads new g names named = seen new _ named ∙ (patches_named g names (sums_of (pending_in (nodes_of heads)) names) (nodes_of heads) ∙ ap (map (gains g names)) (patches_in_nodes heads))
 
 -- a head more after room was made is one more than there was
-pub more_after : {old roomier new : Columns} {p : Patch} {rank : Rank} → IsRoomier old roomier → HasOneMore p rank roomier new → HasOneMore p rank old new
+pub more_after : {old roomier new : Columns} {p : Patch} {level : ℕ} {ancestry : Ancestry} → IsRoomier old roomier → HasOneMore p level ancestry roomier new → HasOneMore p level ancestry old new
 more_after R P = record {
   nodes = rw (← R.nodes) P.nodes;
   marks = rw (← R.marks.0, ← R.marks.1) P.marks;
@@ -50,7 +50,7 @@ more_after R P = record {
   wide = let wider = P.wide in let wide = R.wide in omega (arith, wide, wider);
 }
 
-pub more_as : {old new : Columns} {p q : Patch} {rank own : Rank} → p ≡ q → rank ≡ own → HasOneMore p rank old new → HasOneMore q own old new
+pub more_as : {old new : Columns} {p q : Patch} {level : ℕ} {ancestry own : Ancestry} → p ≡ q → ancestry ≡ own → HasOneMore p level ancestry old new → HasOneMore q level own old new
 more_as same at P = rw (← same, ← at) P
 
 -- of the columns as they were it does not matter which proof says that their numbers rise
@@ -72,7 +72,7 @@ added_over rising A =
     }
 
 -- a gate that is put down is added
-pub gate_added : {old new : Columns} {n : ℕ} {row : List ℕ} → HasOneMore (fresh n OpenGate row) (record { number = n; level = top_level; ancestry = no_ancestry; hard_over = 0 }) old new → GoesUnder (patches_of old.heads.list.items) n row no_ancestry → vec_len old.heads.list < vec_capacity new.queue → IsAdded (fresh n OpenGate row) old new
+pub gate_added : {old new : Columns} {n : ℕ} {row : List ℕ} → HasOneMore (fresh n OpenGate row) top_level no_ancestry old new → GoesUnder (patches_of old.heads.list.items) n row no_ancestry → vec_len old.heads.list < vec_capacity new.queue → IsAdded (fresh n OpenGate row) old new
 gate_added P under free = record { level = top_level; ancestry = no_ancestry; under = under; head = P; over = λ q c few. few; most = omega arith; top = λ e. refl; free = free }
 
 module _ {s : Inside} (S : AreSound s) where
@@ -167,10 +167,6 @@ module _ {s : Inside} (S : AreSound s) where
       may = (risen walk same named R).lifts;
     }
 
-    pub may_go_on : {hs gs : List Head} {lifted : Leveling} → hs ≡ s.columns.heads.list.items → IsLeveled (patches_of hs) (length s.columns.levels.floors) lifted → gs ≡ s.columns.heads.list.items
-        → record { aligned : map (λ r. r.number) lifted.ranks ≡ map (λ p. p.number) (patches_of gs); jumps : AreOver (patches_of gs) (jump_of lifted.ranks); given : 0 < s.numbers + 1 }
-    may_go_on at leveled same = rw same record { aligned = rw (← at) leveled.aligned; jumps = rw (← at) leveled.jumps; given = omega arith }
-
     pub may_need : {hs : List Head} {row : List ℕ} → hs ≡ s.columns.heads.list.items → row ≡ p.dependencies.items → record { disk : IsOnDiskWithAll (patches_of hs); settled : (blocks : ℕ) × AreSettled (nodes_of hs) blocks; block : s.needs.block < length s.needs.lists; room : length row ≤ s.needs.room }
     may_need same named =
         let needed = D.prepared.needed in
@@ -206,7 +202,7 @@ module _ {s : Inside} (S : AreSound s) where
         }
 
     -- the change stands as it rises, beside what its block has already
-    pub change_sound : (walk : Trail) (places : List Bool) {rise : Rise} {a : Ancestry} {columns : Columns} {lifted : Leveling} → HasOneMore made (record { number = s.numbers + 1; level = rise.level; ancestry = a; hard_over = 0 }) (record s.columns { ends = walked walk places; levels = lifted }) columns
+    pub change_sound : (walk : Trail) (places : List Bool) {rise : Rise} {a : Ancestry} {columns : Columns} {lifted : Leveling} → HasOneMore made rise.level a (record s.columns { ends = walked walk places; levels = lifted }) columns
         → {over : Pending} → over ≡ node → {hs : List Head} {row : List ℕ} → hs ≡ s.columns.heads.list.items → row ≡ p.dependencies.items → IsRise (patches_of hs) s.columns.levels p.block row p.told.grade (numbers_met hs walk) rise → length walk.marks ≡ length hs
         → {hs : List Head} → hs ≡ s.columns.heads.list.items → IsLeveled (patches_of hs) (length s.columns.levels.floors) lifted
         → ((n : ℕ) → level_of s.columns.levels.ranks n ≤ rise.level → level_of lifted.ranks n ≤ rise.level) → (rise.lifts ≡ true → floor_of lifted.floors p.block ≡ rise.level) → (rise.lifts ≡ false → lifted ≡ s.columns.levels)

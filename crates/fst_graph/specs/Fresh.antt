@@ -1,9 +1,9 @@
 -- Room for new heads, and what a new head makes of the others and of what has a place for each head.
-use Rattle.std.specs.Prelude.{◌≡◌, ◌≤◌, ◌<◌, ◌+◌, ◌++◌, ◌∷◌, [], ℕ, false, List, length, count_by, map, vec_len, vec_capacity, Contains}
+use Rattle.std.specs.Prelude.{◌≡◌, ◌≤◌, ◌<◌, ◌+◌, ◌++◌, ◌∷◌, [], ℕ, false, List, length, count_by, map, All, vec_len, vec_capacity, Contains}
 use Rattle.std.specs.List.Sorted.{IsStrictlyIncreasing}
 use Rattle.fst_types.specs.{Dependencies.IsLiveNumber, Facts.SparseAreLawful, Limits.max_heads, Making.fresh, Patches.{Patch, IsOn, IsOpenGate, OpenGate}, Tests.{is_live, is_on}}
 use Rattle.fst_heads.specs.{Heads.{kind_of, patches_of}, Nodes.{Node, nodes_of, linked_to, pending_in}, Pendings.{joined, of_kind, sums_of}}
-use Rattle.fst_levels.specs.{Ancestors.GoesUnder, Leveling.{level_of, top_level}, declared.levels.{Ancestry.Ancestry, Rank.Rank}}
+use Rattle.fst_levels.specs.{Ancestors.GoesUnder, Leveling.{level_of, top_level}, declared.levels.{Ancestry.Ancestry}}
 use Rattle.fst_graph.specs.declared.columns.Columns.{Columns}
 use Rattle.fst_graph.specs.declared.fresh.Fresh.{Fresh}
 
@@ -11,9 +11,10 @@ use Rattle.fst_graph.specs.declared.fresh.Fresh.{Fresh}
 abbrev pub patch_from : Fresh → Patch
 patch_from f = record { number = f.number; kind = kind_of f.kind; place = f.place; dependencies = f.dependencies.items }
 
--- each of them has a lower number
-abbrev pub IsNewest : ℕ → List Patch → Type 0
-IsNewest number patches = (p : Patch) → Contains patches p → p.number < number
+-- each head and each rank has a lower number
+pub record IsNewest (number : ℕ) (c : Columns) : Type 0 where
+  pub heads : (p : Patch) → Contains (patches_of c.heads.list.items) p → p.number < number
+  pub ranks : All (λ r. r.number < number) c.levels.ranks
 
 -- the nodes with a new patch, which is a dependant of those that it depends on
 abbrev pub nodes_with : List Node → Patch → List Node
@@ -48,12 +49,12 @@ pub record IsRoomier (old new : Columns) : Type 0 where
   pub waiting : new.queue.items ≡ old.queue.items
   pub wide : vec_capacity old.queue ≤ vec_capacity new.queue
 
--- patch p comes last, with that rank
-pub record HasOneMore (p : Patch) (rank : Rank) (old new : Columns) : Type 0 where
+-- patch p comes last, at that level and with that ancestry
+pub record HasOneMore (p : Patch) (level : ℕ) (ancestry : Ancestry) (old new : Columns) : Type 0 where
   pub nodes : nodes_of new.heads.list.items ≡ nodes_with (nodes_of old.heads.list.items) p
   pub marks : (new.ends.up.walk.marks ≡ old.ends.up.walk.marks ++ false ∷ []) × (new.ends.down.walk.marks ≡ old.ends.down.walk.marks ++ false ∷ [])
   pub crossed : (new.ends.up.crossed ≡ old.ends.up.crossed) × (new.ends.down.crossed ≡ old.ends.down.crossed)
-  pub ranks : new.levels.ranks ≡ old.levels.ranks ++ rank ∷ []
+  pub ranks : new.levels.ranks ≡ old.levels.ranks ++ record { number = p.number; level = level; ancestry = ancestry; hard_over = 0 } ∷ []
   pub floors : new.levels.floors ≡ old.levels.floors
   pub waiting : new.queue.items ≡ old.queue.items
   pub wide : vec_capacity old.queue ≤ vec_capacity new.queue
@@ -63,7 +64,7 @@ pub record IsAdded (p : Patch) (old new : Columns) : Type 0 where
   pub level : ℕ
   pub ancestry : Ancestry
   pub under : GoesUnder (patches_of old.heads.list.items) p.number p.dependencies ancestry
-  pub head : HasOneMore p (record { number = p.number; level = level; ancestry = ancestry; hard_over = 0 }) old new
+  pub head : HasOneMore p level ancestry old new
   pub over : (q : ℕ) → Contains p.dependencies q → level_of old.levels.ranks q ≤ top_level → level_of old.levels.ranks q ≤ level
   pub most : level ≤ top_level
   pub top : IsOpenGate p → level ≡ top_level

@@ -20,7 +20,7 @@ use fst_heads::links::{link, reserve_above};
 use fst_heads::pending::Pending;
 use fst_heads::row::row_sums;
 use fst_levels::ancestors::ancestry_over;
-use fst_levels::levels::{Levels, Rank, TOP, no_ancestry};
+use fst_levels::levels::{Ancestry, Levels, Rank, TOP, no_ancestry};
 use fst_walks::ends::Ends;
 use smallvec::SmallVec;
 use std::alloc::{AllocError, Global};
@@ -35,28 +35,15 @@ pub struct Columns {
     pub queue: Vec<u32>,
 }
 
-// The rank of a new gate.
-fn at_the_top(number: u32) -> Rank
-    ensures { result ≡ record { number = number; level = top_level; ancestry = no_ancestry; hard_over = 0 } }
-{
-    Rank {
-        number,
-        level: TOP,
-        ancestry: no_ancestry(),
-        hard_over: 0,
-    }
-}
-
 // How high a new patch stands that is no change.
-fn level_over(levels: &Levels, heads: &Heads, fresh: &Fresh) -> u32
-    requires aligned { map (λ r. r.number) levels.now.ranks ≡ map (λ p. p.number) (patches_of heads.now.list.items) }
+fn level_over(levels: &Levels, fresh: &Fresh) -> u32
     ensures over { (q : ℕ) → Contains fresh.now.dependencies.items q → level_of levels.now.ranks q ≤ top_level → level_of levels.now.ranks q ≤ result }
     ensures top { IsOpenGate (patch_from fresh.now) → result ≡ top_level }
 {
     match fresh.kind {
         Kind::OpenGate => TOP,
         Kind::Change(_, _, _) | Kind::Empty | Kind::SealedGate => {
-            levels.greatest(heads, fresh.dependencies.as_slice())
+            levels.greatest(fresh.dependencies.as_slice())
         }
     }
 }
@@ -75,14 +62,21 @@ impl Columns {
         self.queue.reserve(self.heads.list.len() + more as usize)
     }
 
-    /// Puts down the head of a new patch with that rank, for which there is room, and answers what is pending of it.
-    pub fn put_down(&mut self, alloc: Global, fresh: Fresh, rank: Rank) -> Pending
-        requires newest { IsNewest fresh.number (patches_of self.old.heads.list.items) }
+    /// Puts down the head of a new patch at that level and with that ancestry, for which there is room, and answers what is
+    /// pending of it.
+    pub fn put_down(
+        &mut self,
+        alloc: Global,
+        fresh: Fresh,
+        level: u32,
+        ancestry: Ancestry,
+    ) -> Pending
+        requires newest { IsNewest fresh.number self.old }
         requires once { IsStrictlyIncreasing fresh.dependencies.items }
         requires above { HasRoomAbove self.old.heads.list.items fresh.dependencies.items }
         requires places { HasPlaces 1 self.old }
         requires few { count_by is_waiting (nodes_of self.old.heads.list.items) ≤ max_heads }
-        ensures put { HasOneMore (patch_from fresh) rank self.old self.new }
+        ensures put { HasOneMore (patch_from fresh) level ancestry self.old self.new }
         ensures pending { result ≡ of_kind (kind_of fresh.kind) fresh.place (joined (pending_in (nodes_of self.old.heads.list.items)) fresh.dependencies.items) }
         ensures len { vec_len self.new.heads.list ≡ vec_len self.old.heads.list + 1 }
         ensures places { (more : ℕ) → HasPlaces (more + 1) self.old → HasPlaces more self.new }
@@ -92,6 +86,12 @@ impl Columns {
         let row = fresh.dependencies.as_slice();
         let sums = row_sums(&self.heads, row);
         let pending = pending_over(&fresh, sums.joined());
+        let rank = Rank {
+            number: fresh.number,
+            level,
+            ancestry,
+            hard_over: 0,
+        };
         link(&mut self.heads, row, fresh.number);
         self.heads.list.push_reserved(Head {
             number: fresh.number,
@@ -110,7 +110,7 @@ impl Columns {
 
     /// Makes room for a new patch that is no change, and puts its head down.
     pub fn add_one(&mut self, alloc: Global, fresh: Fresh) -> Result<(), AllocError>
-        requires newest { IsNewest fresh.number (patches_of self.old.heads.list.items) }
+        requires newest { IsNewest fresh.number self.old }
         requires once { IsStrictlyIncreasing fresh.dependencies.items }
         requires leveled { IsLeveled (patches_of self.old.heads.list.items) (length self.old.levels.floors) self.old.levels }
         requires given { 0 < fresh.number }
@@ -120,18 +120,10 @@ impl Columns {
     {
         self.reserve(1)?;
         reserve_above(&mut self.heads, fresh.dependencies.as_slice())?;
-        let rank = Rank {
-            number: fresh.number,
-            level: level_over(&self.levels, &self.heads, &fresh),
-            ancestry: ancestry_over(
-                &self.levels,
-                &self.heads,
-                fresh.dependencies.as_slice(),
-                fresh.number,
-            ),
-            hard_over: 0,
-        };
-        self.put_down(alloc, fresh, rank);
+        let level = level_over(&self.levels, &fresh);
+        let row = fresh.dependencies.as_slice();
+        let ancestry = ancestry_over(&self.levels, row, fresh.number);
+        self.put_down(alloc, fresh, level, ancestry);
         Ok(())
     }
 
@@ -139,6 +131,7 @@ impl Columns {
     /// first.
     pub fn add_two(&mut self, alloc: Global, numbers: u32) -> Result<(), AllocError>
         requires lawful { SparseAreLawful (patches_of self.old.heads.list.items) numbers }
+        requires newest { IsNewest (numbers + 1) self.old }
         requires given { numbers + 2 ≤ max_number }
         requires few { count_by is_waiting (nodes_of self.old.heads.list.items) < max_heads }
         ensures added { OnOk result (AddsTwo numbers self.old self.new) }
@@ -147,9 +140,9 @@ impl Columns {
         self.reserve(2)?;
         let number = numbers + 1;
         let head = gate(number, SmallVec::new(alloc));
-        self.put_down(alloc, head, at_the_top(number));
+        self.put_down(alloc, head, TOP, no_ancestry());
         let tail = gate(number + 1, row_of(alloc, number));
-        self.put_down(alloc, tail, at_the_top(number + 1));
+        self.put_down(alloc, tail, TOP, no_ancestry());
         Ok(())
     }
 }

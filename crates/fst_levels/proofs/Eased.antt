@@ -27,7 +27,7 @@ half_few n le = elim (cases_lt n top_level) [
   | inr high ↦ rw (high_whole n high) le
 ]
 
-numbers_stay : (ranks : List Rank) → map (λ r. r.number) (map halved_rank ranks) ≡ map (λ r. r.number) ranks
+pub numbers_stay : (ranks : List Rank) → map (λ r. r.number) (map halved_rank ranks) ≡ map (λ r. r.number) ranks
 numbers_stay [] = refl
 numbers_stay (r ∷ rs) = ap (λ ns. r.number ∷ ns) (numbers_stay rs)
 

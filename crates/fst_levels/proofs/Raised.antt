@@ -1,15 +1,15 @@
 -- Levels of numbers without a head, and a rank that is put at another level.
-use Rattle.std.proofs.Common.{◌≡◌, ◌≢◌, ◌<◌, ℕ, zero, suc, List, [], ◌∷◌, length, map, get_or, set, sym, ◌∙◌, arith, All, AllPairs, refl, eqb, eq-eqb, ne_eqb, inl, inr}
+use Rattle.std.proofs.Common.{◌≡◌, ◌≢◌, ◌<◌, ℕ, zero, suc, List, [], ◌∷◌, length, map, get_or, set, subst, sym, ◌∙◌, arith, All, AllPairs, refl, eqb, eq-eqb, ne_eqb, inl, inr}
 use Rattle.std.proofs.lemmas.Bool.{cases_Bool}
 use Rattle.std.proofs.lemmas.List.{Elements.All-tail}
-use Rattle.fst_heads.specs.{Heads.{IsRising, patches_of}, Indices.{HasNone}, declared.head.Head.Head}
-use Rattle.fst_levels.specs.{Leveling.kept_under, declared.levels.Rank.Rank}
-use Rattle.fst_heads.proofs.Indices.{index_here, some_element}
-use Rattle.fst_levels.proofs.Ranked.{rank_number, ranks_long}
+use Rattle.fst_levels.specs.{Leveling.{AreRanked, kept_under}, declared.levels.Rank.Rank}
+use Rattle.fst_heads.proofs.Indices.{rising_back, rising_map}
+use Rattle.fst_levels.proofs.Ranked.{number_of}
 
--- the numbers of ranks rise
-abbrev pub AreRanked : List Rank → Type 0
-AreRanked ranks = AllPairs (λ r q. r.number < q.number) ranks
+-- ranks with the same numbers rise too
+pub ranked_as : (old new : List Rank) → map (λ r. r.number) new ≡ map (λ r. r.number) old → AreRanked old → AreRanked new
+ranked_as old new same rising =
+    rising_back number_of new number_of (λ n. n) (λ r. refl) (subst (λ (xs : List ℕ). AllPairs (λ a b. a < b) xs) (sym same) (rising_map number_of old number_of (λ n. n) (λ r. refl) rising))
 
 ranked_rest : (r : Rank) (rs : List Rank) → AreRanked (r ∷ rs) → AreRanked rs
 ranked_rest r rs rising i j d lt inside = rising (suc i) (suc j) d (omega (arith, lt)) (omega (arith, inside))
@@ -49,16 +49,7 @@ module _ {X : Type 0} (part : Rank → X) (of : X → ℕ) where
       let all : map part rs ≡ map part qs = cc in
       rw (own, same, kept_as qs rs rest all n) refl
 
-kept_none : (kept : Rank → ℕ) (ranks : List Rank) (n : ℕ) → All (λ r. r.number ≢ n) ranks → kept_under kept ranks n ≡ 0
+-- under a number that no rank has nothing is kept
+pub kept_none : (kept : Rank → ℕ) (ranks : List Rank) (n : ℕ) → All (λ r. r.number ≢ n) ranks → kept_under kept ranks n ≡ 0
 kept_none kept [] n none = refl
 kept_none kept (r ∷ rs) n none = rw (ne_eqb r.number n (none 0 r (omega arith))) (kept_none kept rs n (All-tail (λ x. x.number ≢ n) r rs none))
-
--- under a number without a head nothing is kept
-module _ (heads : List Head) (ranks : List Rank) (rising : IsRising heads) (aligned : map (λ r. r.number) ranks ≡ map (λ p. p.number) (patches_of heads)) where
-  pub none_kept : (kept : Rank → ℕ) (n : ℕ) → HasNone heads n → kept_under kept ranks n ≡ 0
-  none_kept kept n none =
-      let long = ranks_long heads ranks rising aligned in
-      kept_none kept ranks n (λ s d lt e.
-      let h = some_element heads s (omega (arith, lt, long)) in
-      let inside : s < length heads = omega (arith, lt, long) in
-      none s h inside (sym (rank_number heads ranks rising aligned (get_or heads s h).number s (index_here heads s h inside) d) ∙ e))

@@ -5,7 +5,7 @@ use Rattle.fst_types.specs.Patches.{Patch}
 use Rattle.fst_types.proofs.Finite.{In, Contains-from_In}
 use Rattle.fst_heads.specs.{declared.head.Head.Head, Heads.{IsRising, patch_of, patches_of}, Indices.{HasIndex, HasNone}}
 use Rattle.fst_heads.proofs.Indices.{any_default, some_element, rising_map, rising_back, index_here}
-use Rattle.fst_levels.specs.{Leveling.{kept_under, level_of, no_ancestry}, declared.levels.Rank.Rank}
+use Rattle.fst_levels.specs.{Leveling.{AreRanked, kept_under, level_of, no_ancestry}, declared.levels.Rank.Rank}
 
 -- the number of a rank
 abbrev pub number_of : Rank → ℕ
@@ -41,6 +41,10 @@ module _ (kept : Rank → ℕ) where
   kept_rising (x ∷ xs) rising (suc index) lt d =
       let apart = rising 0 (suc index) d (omega arith) lt in
       rw (ne_eqb x.number (get_or xs index d).number (λ e. omega (arith, apart, e))) (kept_rising xs (λ i j e l b. rising (suc i) (suc j) e (omega (arith, l)) (omega (arith, b))) index (omega (arith, lt)) d)
+
+  -- what a rank has that was found by its number
+  pub kept_found : (ranks : List Rank) → AreRanked ranks → (index n : ℕ) → index < length ranks → ((d : Rank) → (get_or ranks index d).number ≡ n) → (r : Rank) → r ≡ get_or ranks index r → kept r ≡ kept_under kept ranks n
+  kept_found ranks rising index n inside found r is = ap kept is ∙ (sym (kept_rising ranks rising index inside r) ∙ ap (kept_under kept ranks) (found r))
 
 -- a number that lies between two that follow one another is of no rank
 pub none_between : (ranks : List Rank) → AllPairs (λ x y. x.number < y.number) ranks → (none : Rank) (k n : ℕ) → k ≤ length ranks → (0 < k → (get_or ranks (k - 1) none).number < n) → (k < length ranks → n < (get_or ranks k none).number) → All (λ r. r.number ≢ n) ranks

@@ -1,5 +1,5 @@
 -- Levels: a number for each patch, and for each block its floor, so that no way down rises. What is below the floor of a block waits for nothing that may come to wait for that block.
-use Rattle.std.specs.Prelude.{◌≡◌, ◌≤◌, ◌==◌, ◌/◌, nat_lt, ℕ, List, [], ◌∷◌, length, map, slice_index_or, if◌then◌else◌}
+use Rattle.std.specs.Prelude.{◌≡◌, ◌≤◌, ◌==◌, ◌/◌, ◌<◌, nat_lt, ℕ, List, [], ◌∷◌, AllPairs, length, map, slice_index_or, if◌then◌else◌}
 use Rattle.fst_types.specs.{Dependencies.DirectlyOn, Gates.IsOpenNumber, Patches.Patch}
 use Rattle.fst_heads.specs.{Grading.IsHardNumber, Indices.PassesAt}
 use Rattle.fst_heads.specs.declared.test.Test.TheVariants as test
@@ -16,6 +16,10 @@ pub record AreLeveled (patches : List Patch) (level floor : ℕ → ℕ) : Type 
   pub hard : (b p : ℕ) → IsHardNumber patches b p → level p ≤ floor b
   pub gates : (p : ℕ) → IsOpenNumber patches p → level p ≡ top_level
   pub few : (p : ℕ) → level p ≤ top_level
+
+-- the numbers of ranks rise
+abbrev pub AreRanked : List Rank → Type 0
+AreRanked ranks = AllPairs (λ r q. r.number < q.number) ranks
 
 -- what is kept under a number, and 0 where nothing is
 abbrev pub kept_under : (Rank → ℕ) → List Rank → ℕ → ℕ

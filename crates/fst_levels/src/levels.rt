@@ -3,7 +3,7 @@
 //! change in memory is no higher. So what lies below a floor can come to wait for nothing of that block. Beside its level the
 //! ancestry of each head is kept (`ancestors`), and of some a hard change over them (`under_hard`).
 
-ghost use Rattle.std.specs.Prelude.{vec_capacity, count_by, ◌≡◌, ◌≢◌, ◌≤◌, ◌<◌, ◌+◌, ◌++◌, ◌∷◌, [], ℕ, List, false, IsTrue, length, map, filter, Contains, AllPairs, IfOk, IfSome, IfNone, OnOk, slice_index_or};
+ghost use Rattle.std.specs.Prelude.{vec_capacity, count_by, ◌≡◌, ◌≢◌, ◌≤◌, ◌<◌, ◌+◌, ◌++◌, ◌∷◌, [], ℕ, List, false, IsTrue, length, map, filter, Contains, All, IfOk, IfSome, IfNone, OnOk, slice_index_or};
 ghost use Rattle.fst_types.specs.Tests.{is_live};
 ghost use Rattle.fst_types.specs.Patches.{IsOn, OpenGate, Patch};
 ghost use Rattle.fst_heads.specs.Heads.{patch_of, patches_of};
@@ -19,7 +19,7 @@ ghost use Rattle.fst_levels.specs.Walks.{number_at, numbers_met};
 mod beside;
 
 use crate::directory::Directory;
-use crate::ranks::{halve_floors, halve_ranks, keep_live, raise, raise_floor, rank_index};
+use crate::ranks::{Ranks, halve_floors, halve_ranks, keep_live, raise_floor};
 use crate::walk::Walk;
 use fst_heads::head::{Head, Kind};
 use fst_heads::heads::Heads;
@@ -69,8 +69,7 @@ pub struct Rise {
 /// numbers. It takes 24 bytes for each head and 12 for each block, and the directory.
 #[derive(Drop)]
 pub struct Levels {
-    ranks: Vec<Rank>,
-    directory: Directory,
+    ranks: Ranks,
     floors: Vec<u32>,
     owed: Vec<usize>,
     highest: u32,
@@ -83,9 +82,9 @@ impl Model for Levels {
 
     ghost Value = { Leveling };
 
-    ghost view = { λ l. record { ranks = l.ranks.items; floors = l.floors.items; room = l.room } };
+    ghost view = { λ l. record { ranks = l.ranks.list.items; floors = l.floors.items; room = l.room } };
 
-    ghost invariant = { λ l. l.room ≤ vec_capacity l.ranks };
+    ghost invariant = { λ l. l.room ≤ vec_capacity l.ranks.list };
 }
 
 /// No ancestor.
@@ -114,8 +113,10 @@ impl Levels {
         let floors = empty_floors(alloc, blocks)?;
         let owed = vec![in alloc; 0; blocks as usize]?;
         Ok(Levels {
-            ranks: Vec::new(alloc),
-            directory: Directory::new(alloc),
+            ranks: Ranks {
+                list: Vec::new(alloc),
+                directory: Directory::new(alloc),
+            },
             floors,
             owed,
             highest: 0,
@@ -129,22 +130,25 @@ impl Levels {
         ensures floors { self.new.floors ≡ self.old.floors }
         ensures room { OnOk result (length self.new.ranks + more ≤ self.new.room) }
     {
-        let room = self.ranks.len() + more as usize;
-        self.ranks.reserve(more as usize)?;
-        self.directory.reserve(&self.ranks)?;
+        let room = self.ranks.list.len() + more as usize;
+        self.ranks.list.reserve(more as usize)?;
+        self.ranks.directory.reserve(&self.ranks.list)?;
         self.room = room;
         Ok(())
     }
 
-    /// One head more, for which there is room.
+    /// One head more, for which there is room, with the greatest number.
     pub fn grow(&mut self, rank: Rank)
-        requires { length self.old.ranks < self.old.room }
+        requires free { length self.old.ranks < self.old.room }
+        requires newest { All (λ r. r.number < rank.number) self.old.ranks }
         ensures ranks { self.new.ranks ≡ self.old.ranks ++ rank ∷ [] }
         ensures floors { self.new.floors ≡ self.old.floors }
         ensures room { self.new.room ≡ self.old.room }
     {
-        self.directory.grow(rank.number, self.ranks.len());
-        self.ranks.push_reserved(rank);
+        self.ranks
+            .directory
+            .grow(rank.number, self.ranks.list.len());
+        self.ranks.list.push_reserved(rank);
     }
 
     /// The index of the head with the number. It is looked for among the ranks, which are far smaller than heads.
@@ -154,7 +158,7 @@ impl Levels {
         ensures none { IfNone result (HasNone heads.now.list.items number) }
     {
         let _ = heads;
-        rank_index(self.ranks.as_slice(), &self.directory, number)
+        self.ranks.index_of(number)
     }
 
     /// The level of the head at the index.
@@ -162,7 +166,7 @@ impl Levels {
         requires { index < length self.now.ranks }
         ensures { (d : Rank) → result ≡ (slice_index_or self.now.ranks index d).level }
     {
-        self.ranks[index].level
+        self.ranks.list[index].level
     }
 
     /// The rank of the head at the index.
@@ -170,7 +174,7 @@ impl Levels {
         requires { index < length self.now.ranks }
         ensures { (d : Rank) → result ≡ slice_index_or self.now.ranks index d }
     {
-        self.ranks[index]
+        self.ranks.list[index]
     }
 
     /// The floor of the block.
@@ -189,27 +193,15 @@ impl Levels {
         }
     }
 
-    /// The level of the patch with the number, and 0 where it is forgotten.
-    pub fn of(&self, heads: &Heads, number: u32) -> u32
-        requires aligned { map (λ r. r.number) self.now.ranks ≡ map (λ p. p.number) (patches_of heads.now.list.items) }
-        ensures { result ≡ level_of self.now.ranks number }
-    {
-        match self.find(heads, number) {
-            Some(index) => self.level(index),
-            None => 0,
-        }
-    }
-
     /// The rank of the patch with the number. Where it is forgotten its level is 0, and it has no ancestor.
-    pub fn rank_of(&self, heads: &Heads, number: u32) -> Rank
-        requires aligned { map (λ r. r.number) self.now.ranks ≡ map (λ p. p.number) (patches_of heads.now.list.items) }
+    pub fn rank_of(&self, number: u32) -> Rank
         ensures number { result.number ≡ number }
         ensures level { result.level ≡ level_of self.now.ranks number }
         ensures parent { result.ancestry.parent ≡ parent_of self.now.ranks number }
         ensures jump { result.ancestry.jump ≡ jump_of self.now.ranks number }
     {
-        match self.find(heads, number) {
-            Some(index) => self.rank(index),
+        match self.ranks.index_of(number) {
+            Some(index) => self.ranks.list[index],
             None => Rank {
                 number,
                 level: 0,
@@ -219,14 +211,20 @@ impl Levels {
         }
     }
 
+    /// The level of the patch with the number, and 0 where it is forgotten.
+    pub fn of(&self, number: u32) -> u32
+        ensures { result ≡ level_of self.now.ranks number }
+    {
+        self.rank_of(number).level
+    }
+
     /// The greatest level of the row.
-    pub fn greatest(&self, heads: &Heads, row: &[u32]) -> u32
-        requires aligned { map (λ r. r.number) self.now.ranks ≡ map (λ p. p.number) (patches_of heads.now.list.items) }
+    pub fn greatest(&self, row: &[u32]) -> u32
         ensures { (q : ℕ) → Contains row.now q → level_of self.now.ranks q ≤ result }
     {
         let mut most = 0;
         for number in row {
-            most = self.of(heads, *number).max(most);
+            most = self.of(*number).max(most);
         }
         most
     }
@@ -242,8 +240,14 @@ impl Levels {
     {
         let first = first_on_disk(&heads.list, live);
         let end = end_on_disk(&heads.list, first, live);
-        keep_live(&mut self.ranks, &mut self.directory, heads, first, end);
-        self.directory.follow(&self.ranks);
+        keep_live(
+            &mut self.ranks.list,
+            &mut self.ranks.directory,
+            heads,
+            first,
+            end,
+        );
+        self.ranks.directory.follow(&self.ranks.list);
         drop_on_disk(heads, first, end);
     }
 
@@ -271,10 +275,10 @@ impl Levels {
         ensures room { (length self.new.ranks ≡ length self.old.ranks) × (self.new.room ≡ self.old.room) }
     {
         let head = &heads.list[index];
-        let below = self.greatest(heads, head.dependencies.as_slice());
+        let below = self.greatest(head.dependencies.as_slice());
         let level = below.max(self.own_level(head));
         if level < self.level(index) {
-            raise(&mut self.ranks, index, level);
+            self.ranks.raise(index, level);
             true
         } else {
             false
@@ -288,7 +292,7 @@ impl Levels {
         requires inside { IsInside (patches_of heads.now.list.items) (length self.old.floors) }
         ensures { IsLifted (patches_of heads.now.list.items) (number_at heads.now.list.items index ∷ []) to self.old self.new }
     {
-        raise(&mut self.ranks, index, to);
+        self.ranks.raise(index, to);
         raise_floor(&mut self.floors, &heads.list[index], to);
     }
 
@@ -317,25 +321,6 @@ impl Levels {
         }
     }
 
-    // As `lift`, but what is counted beside stays.
-    fn lift_met(&mut self, heads: &Heads, walk: &Walk, block: u32, rise: Rise)
-        requires disk { IsOnDiskWithAll (patches_of heads.now.list.items) }
-        requires long { length walk.now.marks ≡ length heads.now.list.items }
-        requires inside { block < length self.old.floors × IsInside (patches_of heads.now.list.items) (length self.old.floors) }
-        requires leveled { IsLeveled (patches_of heads.now.list.items) (length self.old.floors) self.old }
-        requires may { IsTrue rise.lifts → MayLift (patches_of heads.now.list.items) self.old block rise.level (numbers_met heads.now.list.items walk.now) }
-        ensures leveled { IsLeveled (patches_of heads.now.list.items) (length self.old.floors) self.new }
-        ensures below { (n : ℕ) → level_of self.old.ranks n ≤ rise.level → level_of self.new.ranks n ≤ rise.level }
-        ensures lifted { IsTrue rise.lifts → floor_of self.new.floors block ≡ rise.level }
-        ensures still { rise.lifts ≡ false → self.new ≡ self.old }
-        ensures room { (length self.new.ranks ≡ length self.old.ranks) × (self.new.room ≡ self.old.room) }
-    {
-        if rise.lifts {
-            self.lift_all(heads, walk, rise.level);
-            self.floors[block as usize] = rise.level;
-        }
-    }
-
     /// Where the rise says so, what was met goes up to its level, and so does the floor of the block.
     pub fn lift(&mut self, heads: &Heads, walk: &Walk, block: u32, rise: Rise)
         requires disk { IsOnDiskWithAll (patches_of heads.now.list.items) }
@@ -349,8 +334,11 @@ impl Levels {
         ensures still { rise.lifts ≡ false → self.new ≡ self.old }
         ensures room { (length self.new.ranks ≡ length self.old.ranks) × (self.new.room ≡ self.old.room) }
     {
-        self.lift_met(heads, walk, block, rise);
         self.count(block, rise);
+        if rise.lifts {
+            self.lift_all(heads, walk, rise.level);
+            self.floors[block as usize] = rise.level;
+        }
     }
 
     /// The floor of the block goes to the bottom, where none of its changes is not on disk: what comes next stands on none.
@@ -370,7 +358,7 @@ impl Levels {
         ensures room { (length self.new.ranks ≡ length self.old.ranks) × (self.new.room ≡ self.old.room) }
     {
         if self.highest >= HIGH {
-            halve_ranks(&mut self.ranks);
+            halve_ranks(&mut self.ranks.list);
             halve_floors(&mut self.floors);
             self.highest /= 2;
         }

@@ -1,5 +1,5 @@
-//! What is done with the ranks of the heads and the floors of the blocks, which the levels keep (`levels`): finding a rank by
-//! its number, raising and lowering one, halving all, and dropping those of heads that are dropped.
+//! The ranks of the heads and the floors of the blocks, which the levels keep (`levels`): finding a rank by its number, raising
+//! and lowering one, halving all, and dropping those of heads that are dropped.
 
 ghost use Rattle.std.specs.Prelude.{vec_capacity, ◌≡◌, ◌≢◌, ◌<◌, ℕ, length, map, filter, All, AllPairs, IsTrue, IfSome, IfNone, slice_index_or};
 ghost use Rattle.fst_types.specs.Patches.{IsOn};
@@ -7,7 +7,7 @@ ghost use Rattle.fst_heads.specs.Heads.{patch_of, patches_of};
 ghost use Rattle.fst_heads.specs.Reaching.{IsHardIn};
 ghost use Rattle.fst_heads.specs.Nodes.{is_live_in};
 ghost use Rattle.fst_heads.specs.Spans.{SpansDisk};
-ghost use Rattle.fst_levels.specs.Leveling.{floor_of, halved, halved_rank, level_of, unleveled};
+ghost use Rattle.fst_levels.specs.Leveling.{AreRanked, floor_of, halved, halved_rank, level_of, unleveled};
 
 use crate::directory::Directory;
 use crate::levels::{Rank, TOP};
@@ -16,17 +16,12 @@ use fst_heads::head::{Head, Kind};
 use fst_heads::heads::Heads;
 use fst_heads::places::is_kept;
 
-/// The head at the index is at that level.
-pub fn raise(ranks: &mut Vec<Rank>, index: usize, to: u32)
-    requires index { index < length ranks.old.items }
-    requires rising { AllPairs (λ r q. r.number < q.number) ranks.old.items }
-    ensures numbers { map (λ r. r.number) ranks.new.items ≡ map (λ r. r.number) ranks.old.items }
-    ensures raised { (d : Rank) → level_of ranks.new.items (slice_index_or ranks.old.items index d).number ≡ to }
-    ensures rest { (d : Rank) (n : ℕ) → n ≢ (slice_index_or ranks.old.items index d).number → level_of ranks.new.items n ≡ level_of ranks.old.items n }
-    ensures beside { map unleveled ranks.new.items ≡ map unleveled ranks.old.items }
-    ensures capacity { vec_capacity ranks.new ≡ vec_capacity ranks.old }
-{
-    ranks[index].level = to;
+/// Ranks in the order of their numbers, which rise: no two have the same. Where one stands is told by the directory.
+#[derive(Drop)]
+pub struct Ranks {
+    pub list: Vec<Rank>,
+    pub directory: Directory,
+    pub ghost rising: { AreRanked list.items },
 }
 
 /// Where the patch is a hard change in memory, the floor of its block is there.
@@ -100,43 +95,6 @@ fn is_there(ranks: &[Rank], place: usize, number: u32) -> bool
     }
 }
 
-// Whether the number is that of no rank, since it lies between that of the rank there and the one before.
-fn is_missing(ranks: &[Rank], place: usize, number: u32) -> bool
-    requires { AllPairs (λ r q. r.number < q.number) ranks.now }
-    ensures { IsTrue result → All (λ r. r.number ≢ number) ranks.now }
-{
-    if ranks.len() < place {
-        return false;
-    }
-    if 0 < place && ranks[place - 1].number >= number {
-        return false;
-    }
-    place == ranks.len() || number < ranks[place].number
-}
-
-/// The index of the rank with the number.
-pub fn rank_index(ranks: &[Rank], directory: &Directory, number: u32) -> Option<usize>
-    requires { AllPairs (λ r q. r.number < q.number) ranks.now }
-    ensures found { IfSome result (λ index. (index < length ranks.now) × ((d : Rank) → (slice_index_or ranks.now index d).number ≡ number)) }
-    ensures none { IfNone result (All (λ r. r.number ≢ number) ranks.now) }
-{
-    if let Some(index) = rank_from_end(ranks, number) {
-        return Some(index);
-    }
-    if let Some(place) = directory.place(number) {
-        if is_there(ranks, place, number) {
-            return Some(place);
-        }
-        if is_missing(ranks, place, number) {
-            return None;
-        }
-    }
-    match ranks.binary_search_by_key(&number, |rank| rank.number) {
-        Ok(index) => Some(index),
-        Err(_) => None,
-    }
-}
-
 /// The ranks of heads that are not on disk stay; those on disk stand from `first` up to `end`, and are left out of the
 /// directory. Heads stand in the order of their ranks.
 pub fn keep_live(
@@ -161,4 +119,54 @@ pub fn keep_live(
         }
     }
     ranks.drain(kept..end);
+}
+
+impl Ranks {
+    // Whether the number is that of no rank, since it lies between that of the rank there and the one before.
+    fn is_missing(&self, place: usize, number: u32) -> bool
+        ensures { IsTrue result → All (λ r. r.number ≢ number) self.now.list.items }
+    {
+        let ranks = self.list.as_slice();
+        if ranks.len() < place {
+            return false;
+        }
+        if 0 < place && ranks[place - 1].number >= number {
+            return false;
+        }
+        place == ranks.len() || number < ranks[place].number
+    }
+
+    /// The index of the rank with the number.
+    pub fn index_of(&self, number: u32) -> Option<usize>
+        ensures found { IfSome result (λ index. (index < length self.now.list.items) × ((d : Rank) → (slice_index_or self.now.list.items index d).number ≡ number)) }
+        ensures none { IfNone result (All (λ r. r.number ≢ number) self.now.list.items) }
+    {
+        if let Some(index) = rank_from_end(&self.list, number) {
+            return Some(index);
+        }
+        if let Some(place) = self.directory.place(number) {
+            if is_there(&self.list, place, number) {
+                return Some(place);
+            }
+            if self.is_missing(place, number) {
+                return None;
+            }
+        }
+        match self.list.binary_search_by_key(&number, |rank| rank.number) {
+            Ok(index) => Some(index),
+            Err(_) => None,
+        }
+    }
+
+    /// The rank at the index is at that level.
+    pub fn raise(&mut self, index: usize, to: u32)
+        requires { index < length self.old.list.items }
+        ensures numbers { map (λ r. r.number) self.new.list.items ≡ map (λ r. r.number) self.old.list.items }
+        ensures raised { (d : Rank) → level_of self.new.list.items (slice_index_or self.old.list.items index d).number ≡ to }
+        ensures rest { (d : Rank) (n : ℕ) → n ≢ (slice_index_or self.old.list.items index d).number → level_of self.new.list.items n ≡ level_of self.old.list.items n }
+        ensures beside { map unleveled self.new.list.items ≡ map unleveled self.old.list.items }
+        ensures capacity { vec_capacity self.new.list ≡ vec_capacity self.old.list }
+    {
+        self.list[index].level = to;
+    }
 }

@@ -31,7 +31,6 @@ use fst_heads::pending::{Pending, is_of_block};
 use fst_heads::row::row_sums;
 use fst_heads::standing::Standing;
 use fst_levels::ancestors::ancestry_over;
-use fst_levels::levels::Rank;
 use fst_levels::sight::Sight;
 use fst_levels::under_hard::keep_under;
 use fst_types::{BlockNo, Fault, Grade, PatchNo, Place, Span};
@@ -175,19 +174,16 @@ impl Sparse {
         self.columns.levels.lift(&self.columns.heads, &self.columns.ends.up.walk, block, rise);
         self.needs.put(&self.columns.heads, row, grade);
         self.needs.note(number, prepared.told.end);
-        let rank = Rank {
-            number,
-            level: rise.level,
-            ancestry: ancestry_over(&self.columns.levels, &self.columns.heads, row, number),
-            hard_over: 0,
-        };
+        let ancestry = ancestry_over(&self.columns.levels, row, number);
         let fresh = Fresh {
             number,
             kind,
             place: Place::Memory,
             dependencies: prepared.dependencies,
         };
-        let pending = self.columns.put_down(self.alloc, fresh, rank);
+        let pending = self
+            .columns
+            .put_down(self.alloc, fresh, rise.level, ancestry);
         let listed = Listed { number, span };
         enlist(
             &mut self.lists,

@@ -1,6 +1,6 @@
 //! What is kept of a head beside its level: its ancestry, and a hard change over it.
 
-ghost use Rattle.std.specs.Prelude.{◌≡◌, ◌≢◌, ◌<◌, ℕ, AllPairs, length, map, slice_index_or};
+ghost use Rattle.std.specs.Prelude.{◌≡◌, ◌≢◌, ◌<◌, ℕ, length, map, slice_index_or};
 ghost use Rattle.fst_types.specs.Dependencies.{DependsOn};
 ghost use Rattle.fst_heads.specs.Heads.{patches_of};
 ghost use Rattle.fst_heads.specs.Indices.{HasIndex};
@@ -12,8 +12,7 @@ use fst_heads::heads::Heads;
 impl Levels {
     /// The head at the index has this ancestry.
     pub(crate) fn put_ancestry(&mut self, index: usize, ancestry: Ancestry)
-        requires index { index < length self.old.ranks }
-        requires rising { AllPairs (λ r q. r.number < q.number) self.old.ranks }
+        requires { index < length self.old.ranks }
         ensures numbers { map (λ r. r.number) self.new.ranks ≡ map (λ r. r.number) self.old.ranks }
         ensures levels { map (λ r. r.level) self.new.ranks ≡ map (λ r. r.level) self.old.ranks }
         ensures overs { map (λ r. r.hard_over) self.new.ranks ≡ map (λ r. r.hard_over) self.old.ranks }
@@ -23,7 +22,7 @@ impl Levels {
         ensures floors { self.new.floors ≡ self.old.floors }
         ensures room { self.new.room ≡ self.old.room }
     {
-        self.ranks[index].ancestry = ancestry;
+        self.ranks.list[index].ancestry = ancestry;
     }
 
     /// The hard change that is kept over the patch at the index, by its number, and 0 for none.
@@ -31,7 +30,7 @@ impl Levels {
         requires { index < length self.now.ranks }
         ensures { (d : Rank) → result ≡ (slice_index_or self.now.ranks index d).hard_over }
     {
-        self.ranks[index].hard_over
+        self.ranks.list[index].hard_over
     }
 
     /// That hard change is kept over the patch at the index.
@@ -43,6 +42,6 @@ impl Levels {
         ensures room { (length self.new.ranks ≡ length self.old.ranks) × (self.new.room ≡ self.old.room) }
     {
         let _ = heads;
-        self.ranks[index].hard_over = over;
+        self.ranks.list[index].hard_over = over;
     }
 }

@@ -1,12 +1,9 @@
 use Rattle.std.proofs.lemmas.Grind.{common_steps}
-use Rattle.fst_levels.proofs.{Ranked.ranks_rise, Renewed.renewed_is_leveled}
+use Rattle.fst_levels.proofs.Renewed.{renewed_is_leveled}
 use Rattle.std.proofs.Common.{◌∙◌, length, ap, subst, sym, arith}
 use Rattle.fst_heads.specs.Heads.{patches_of}
 use Rattle.fst_levels.specs.Leveling.{IsLeveled}
 use Rattle.fst_levels.proofs.ancestors.renew.Goals as goal
-
-pub put_ancestry-requires-clause-rising : goal.put_ancestry-requires-clause-rising
-put_ancestry-requires-clause-rising c = ranks_rise c.args.heads.now.list.items c.args.levels.now.ranks c.args.heads.now.rising c.requires.leveled.aligned
 
 pub returns-clause-leveled : goal.returns-clause-leveled
 returns-clause-leveled c =
@@ -16,7 +13,7 @@ returns-clause-leveled c =
     let put = c.put_ancestry.ensures in
     subst (λ n. IsLeveled (patches_of heads) n new) (sym (ap length put.floors))
     (renewed_is_leveled heads c.args.heads.now.rising (length old.floors) old new c.requires.leveled c.args.number c.in-Some.index c.in-Some.ensures.found c.ancestry_over-ancestry.result
-    c.as_slice-row.result.now c.index.result.now (c.as_slice-row.ensures ∙ ap (λ h. h.dependencies.items) c.index.ensures) c.ancestry_over-ancestry.ensures put.numbers put.levels put.overs put.parent put.jump put.rest put.floors)
+    c.as_slice-row.result.now c.index.result.now (c.as_slice-row.ensures ∙ ap (λ h. h.dependencies.items) c.index.ensures) (c.ancestry_over-ancestry.ensures (patches_of heads) (length old.floors) c.requires.leveled c.requires.given) put.numbers put.levels put.overs put.parent put.jump put.rest put.floors)
 
 pub returns-clause-floors : goal.returns-clause-floors
 returns-clause-floors c = grind (arith, common_steps)

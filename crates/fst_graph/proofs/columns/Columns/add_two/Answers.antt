@@ -1,11 +1,12 @@
 use Rattle.std.proofs.Common.{◌≡◌, ◌+◌, ◌∷◌, [], ◌∙◌, arith, subst, sym, ap, length, count_by}
 use Rattle.fst_types.specs.{Facts.SparseAreLawful, Making.fresh, Patches.{Patch, OpenGate}}
 use Rattle.fst_heads.specs.{Heads.patches_of, Nodes.{nodes_of, HasRoomAbove}, Spreading.is_waiting}
-use Rattle.fst_graph.specs.Fresh.{patch_from}
+use Rattle.fst_graph.specs.Fresh.{patch_from, IsNewest}
 use Rattle.fst_heads.proofs.{Added.with_node, Beside.waiting_with, Making.gate_lawful}
 use Rattle.fst_levels.proofs.Ancestral.{none_goes_under}
 use Rattle.fst_graph.proofs.{Made.{gate_added, more_after, more_as, put_patches}}
-use Rattle.fst_graph.proofs.columns.Columns.add_two.Goals.{After-reserve, After-put_down}
+use Rattle.fst_graph.proofs.GreatestNumber.{next_newest}
+use Rattle.fst_graph.proofs.columns.Columns.add_two.Goals.{After-gate-head, After-reserve, After-put_down}
 use Rattle.fst_graph.proofs.columns.Columns.add_two.Goals as goal
 
 lawful : (c : After-reserve) → SparseAreLawful (patches_of c.reserve.new.self.heads.list.items) c.args.numbers
@@ -18,20 +19,20 @@ head c = c.gate-head.ensures ∙ ap (fresh (c.args.numbers + 1) OpenGate) c.new.
 first : (c : After-put_down) → nodes_of c.put_down.new.self.heads.list.items ≡ with_node (nodes_of c.reserve.new.self.heads.list.items) (fresh (c.args.numbers + 1) OpenGate [])
 first c = c.put_down.ensures.put.nodes ∙ ap (with_node (nodes_of c.reserve.new.self.heads.list.items)) (head c)
 
--- each that was there has a number that was given
-pub put_down-requires-clause-newest : goal.put_down-requires-clause-newest
-put_down-requires-clause-newest c p h =
-    let k = ((lawful (goal.at.put_down-requires-clause-newest c).After-reserve).one_place_each.numbered p h).1 in
+-- the first gate has the greatest number
+newest : (c : After-gate-head) → IsNewest c.gate-head.result.number c.reserve.new.self
+newest c =
     let own : c.gate-head.result.number ≡ c.args.numbers + 1 = ap (λ (q : Patch). q.number) c.gate-head.ensures in
-    omega (arith, k, own)
+    rw own (record { heads = rw c.reserve.ensures.same c.requires.newest.heads; ranks = rw c.reserve.ensures.roomier.ranks c.requires.newest.ranks })
+
+pub put_down-requires-clause-newest : goal.put_down-requires-clause-newest
+put_down-requires-clause-newest c = newest (goal.at.put_down-requires-clause-newest c).After-gate-head
 
 pub put_down-requires-2-clause-newest : goal.put_down-requires-2-clause-newest
-put_down-requires-2-clause-newest c p h =
-    let at = goal.at.put_down-requires-2-clause-newest c in
-    let with_first = subst (λ ps. SparseAreLawful ps (c.args.numbers + 1)) (sym (put_patches c.reserve.new.self.heads.list.items c.put_down.new.self.heads.list.items (fresh (c.args.numbers + 1) OpenGate []) (first at.After-put_down))) (gate_lawful (patches_of c.reserve.new.self.heads.list.items) c.args.numbers (lawful at.After-reserve)) in
-    let k = (with_first.one_place_each.numbered p h).1 in
-    let own : c.gate-tail.result.number ≡ c.args.numbers + 1 + 1 = ap (λ (q : Patch). q.number) c.gate-tail.ensures in
-    omega (arith, k, own)
+put_down-requires-2-clause-newest c =
+    let first : c.gate-head.result.number ≡ c.args.numbers + 1 = ap (λ (q : Patch). q.number) c.gate-head.ensures in
+    let own : c.gate-tail.result.number ≡ c.gate-head.result.number + 1 = ap (λ (q : Patch). q.number) c.gate-tail.ensures ∙ ap (λ n. n + 1) (sym first) in
+    rw own (next_newest (newest (goal.at.put_down-requires-2-clause-newest c).After-gate-head) c.put_down.ensures.put)
 
 pub put_down-requires-2-clause-above : goal.put_down-requires-2-clause-above
 put_down-requires-2-clause-above c =
@@ -62,6 +63,6 @@ returns-clause-added c =
     let with_first = subst (λ ps. SparseAreLawful ps (c.args.numbers + 1)) (sym (put_patches c.reserve.new.self.heads.list.items c.put_down.new.self.heads.list.items (fresh (c.args.numbers + 1) OpenGate []) (first at.After-put_down))) (gate_lawful (patches_of c.reserve.new.self.heads.list.items) c.args.numbers (lawful at.After-reserve)) in
     record {
       between = c.put_down.new.self;
-      head = gate_added (more_as (head at.After-put_down) c.at_the_top.ensures (more_after R c.put_down.ensures.put)) (none_goes_under (patches_of c.args.self.now.heads.list.items) (λ q h. (c.requires.lawful.one_place_each.numbered q h).0) (c.args.numbers + 1) [] (omega arith)) (omega (arith, wide, same, c.put_down.ensures.put.wide, c.args.self.now.heads.list.ok.0, c.reserve.new.self.heads.list.ok.0));
-      tail = gate_added (more_as tail c.at_the_top-2.ensures c.put_down-2.ensures.put) (none_goes_under (patches_of c.put_down.new.self.heads.list.items) (λ q h. (with_first.one_place_each.numbered q h).0) (c.args.numbers + 1 + 1) ((c.args.numbers + 1) ∷ []) (omega arith)) (omega (arith, wide, c.put_down.ensures.len, c.put_down.ensures.put.wide, c.put_down-2.ensures.put.wide));
+      head = gate_added (more_as (head at.After-put_down) c.no_ancestry.ensures (more_after R c.put_down.ensures.put)) (none_goes_under (patches_of c.args.self.now.heads.list.items) (λ q h. (c.requires.lawful.one_place_each.numbered q h).0) (c.args.numbers + 1) [] (omega arith)) (omega (arith, wide, same, c.put_down.ensures.put.wide, c.args.self.now.heads.list.ok.0, c.reserve.new.self.heads.list.ok.0));
+      tail = gate_added (more_as tail c.no_ancestry-2.ensures c.put_down-2.ensures.put) (none_goes_under (patches_of c.put_down.new.self.heads.list.items) (λ q h. (with_first.one_place_each.numbered q h).0) (c.args.numbers + 1 + 1) ((c.args.numbers + 1) ∷ []) (omega arith)) (omega (arith, wide, c.put_down.ensures.len, c.put_down.ensures.put.wide, c.put_down-2.ensures.put.wide));
     }

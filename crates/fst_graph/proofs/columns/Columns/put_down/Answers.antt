@@ -28,7 +28,7 @@ row_sums-sums-requires c =
 -- the new head has the greatest number
 lower : (c : After-link) (h : Head) → Contains c.link.new.heads.list.items h → h.number < c.args.fresh.number
 lower c h there =
-    c.requires.newest (patch_of h) (subst (λ ps. Contains ps (patch_of h)) (linked_patches c.link.new.heads.list.items c.args.self.now.heads.list.items _ _ c.link.ensures.nodes)
+    c.requires.newest.heads (patch_of h) (subst (λ ps. Contains ps (patch_of h)) (linked_patches c.link.new.heads.list.items c.args.self.now.heads.list.items _ _ c.link.ensures.nodes)
     (Contains-from_In (patches_of c.link.new.heads.list.items) (patch_of h) (In-map patch_of c.link.new.heads.list.items h (patch_of h) (In-from_Contains c.link.new.heads.list.items h there) refl)))
 
 pub invariant_of-self : goal.invariant_of-self
@@ -67,5 +67,5 @@ returns-clause-places c more P =
       heads_free = omega (arith, P.heads_free, c.push_reserved.ensures.len, c.push_reserved.ensures.capacity, c.link.ensures.len, c.link.ensures.capacity);
       marks_free = omega (arith, P.marks_free, ap length c.grow.ensures.marks.0, length_push marks false, c.grow.ensures.room.0);
       below_free = omega (arith, P.below_free, ap length c.grow.ensures.marks.1, length_push below false, c.grow.ensures.room.1);
-      ranks_free = omega (arith, P.ranks_free, ap length c.grow-2.ensures.ranks, length_push c.args.self.now.levels.ranks c.args.rank, c.grow-2.ensures.room);
+      ranks_free = omega (arith, P.ranks_free, ap length c.grow-2.ensures.ranks, length_push c.args.self.now.levels.ranks (record { number = c.args.fresh.number; level = c.args.level; ancestry = c.args.ancestry; hard_over = 0 }), c.grow-2.ensures.room);
     }

@@ -6,14 +6,14 @@ use Rattle.fst_graph.specs.{Fresh.{patch_from, IsAdded, IsRoomier, MayAdd}, Know
 use Rattle.fst_graph.proofs.{Adding.{empty_made, empty_may}, Borne.few_waiting, Emptying.new_empty, Flagged.{gone_past, remembered_made, roomier_shelf}, Made.{added_over, added_sound, put_patches, roomier_over}, Remembered.remembered_pushed}
 use Rattle.fst_graph.proofs.{RememberedLooks.live_few, RememberedRows.emptied_remembered, Shelf.{put_remembered, same_view}, Sound.{roomier_sound, view_gone, view_long}}
 use Rattle.fst_types.specs.declared.place.Place.TheVariants as place
+use Rattle.fst_graph.proofs.GreatestNumber.{is_newest}
 use Rattle.fst_graph.proofs.sparse.Sparse.add_empty.Goals.{After-add_one}
 use Rattle.fst_graph.proofs.sparse.Sparse.add_empty.Goals as goal
 
 pub add_one-requires-clause-newest : goal.add_one-requires-clause-newest
-add_one-requires-clause-newest c p h =
-    let k = (c.self.invariant.0.keeps.lawful.one_place_each.numbered p h).1 in
+add_one-requires-clause-newest c =
     let own : c.in-Ok.fresh.number ≡ c.self.inside.numbers + 1 = ap (λ (q : Patch). q.number) c.in-Ok.ensures.empty in
-    omega (arith, k, own)
+    rw own (is_newest _ c.self.inside.numbers c.self.inside.blocks c.self.invariant.0.keeps.lawful c.self.invariant.0.leveled)
 
 pub add_one-requires-clause-few : goal.add_one-requires-clause-few
 add_one-requires-clause-few c = few_waiting c.self.inside.columns.heads.list.items c.self.invariant.0.tallies.settled c.self.invariant.0.beside

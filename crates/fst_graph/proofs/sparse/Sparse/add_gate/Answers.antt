@@ -4,6 +4,7 @@ use Rattle.fst_heads.specs.{Heads.patches_of, Nodes.{is_forgotten_in, nodes_of},
 use Rattle.fst_heads.proofs.{Added.with_node, Beside.one_live}
 use Rattle.fst_graph.specs.{Fresh.{patch_from, IsAdded, IsRoomier, MayAdd}, Known.Known, Sound.remembered_of}
 use Rattle.fst_graph.proofs.{Adding.gate_may, Borne.{few_waiting, ok_of}, Flagged.{remembered_made, roomier_shelf}, Made.{added_over, added_sound, put_patches, roomier_over}, RememberedLooks.live_few, Shelf.{put_remembered, same_view}, Sound.{roomier_sound, view_gone, view_long}}
+use Rattle.fst_graph.proofs.GreatestNumber.{is_newest}
 use Rattle.fst_graph.proofs.sparse.Sparse.add_gate.Goals.{After-gate}
 use Rattle.fst_graph.proofs.sparse.Sparse.add_gate.Goals as goal
 
@@ -24,10 +25,9 @@ may : (c : After-gate) → MayAdd (patches_of c.self.inside.columns.heads.list.i
 may c = gate_may (patches_of c.self.inside.columns.heads.list.items) c.self.inside.numbers _ (gate c) c.self.invariant.0.keeps.lawful (few c)
 
 pub add_one-requires-clause-newest : goal.add_one-requires-clause-newest
-add_one-requires-clause-newest c p h =
-    let k = (c.self.invariant.0.keeps.lawful.one_place_each.numbered p h).1 in
+add_one-requires-clause-newest c =
     let own : c.gate.result.number ≡ c.self.inside.numbers + 1 = ap (λ (q : Patch). q.number) c.gate.ensures in
-    omega (arith, k, own)
+    rw own (is_newest _ c.self.inside.numbers c.self.inside.blocks c.self.invariant.0.keeps.lawful c.self.invariant.0.leveled)
 
 pub add_one-requires-clause-few : goal.add_one-requires-clause-few
 add_one-requires-clause-few c = few_waiting c.self.inside.columns.heads.list.items c.self.invariant.0.tallies.settled c.self.invariant.0.beside

@@ -4,8 +4,12 @@ use Rattle.fst_heads.specs.{Heads.{patch_of, patches_of}, Nodes.{is_forgotten_in
 use Rattle.fst_heads.proofs.{AtNumber.patches_in_nodes, Beside.waiting_live}
 use Rattle.fst_graph.specs.{Fresh.{IsAdded, IsRoomier, MayAdd}, Sound.remembered_of}
 use Rattle.fst_graph.proofs.{Adding.gate_may, Borne.ok_of, Flagged.{remembered_made, roomier_shelf}, Made.{added_over, added_sound, put_patches, roomier_over}, Paired.{adds_pair, head_lawful, pair_may, paired, with_head}, Remembered.remembered_lawful, RememberedLooks.live_few, Shelf.{put_remembered, same_view}, Sound.{roomier_sound, view_gone, view_long}}
+use Rattle.fst_graph.proofs.GreatestNumber.{is_newest}
 use Rattle.fst_graph.proofs.sparse.Sparse.add_pair.Goals.{After-add_two}
 use Rattle.fst_graph.proofs.sparse.Sparse.add_pair.Goals as goal
+
+pub add_two-requires-clause-newest : goal.add_two-requires-clause-newest
+add_two-requires-clause-newest c = is_newest _ c.self.inside.numbers c.self.inside.blocks c.self.invariant.0.keeps.lawful c.self.invariant.0.leveled
 
 pub add_two-requires-clause-few : goal.add_two-requires-clause-few
 add_two-requires-clause-few c =

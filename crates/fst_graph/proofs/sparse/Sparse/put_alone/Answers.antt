@@ -3,9 +3,10 @@ use Rattle.std.specs.Vec.{with_item}
 use Rattle.fst_types.specs.{Dependencies.{DirectlyOn, IsLiveNumber}, Gating.gains, Limits.max_heads, Lists.Lists}
 use Rattle.fst_heads.specs.{Frames.HasRoomBelow, Heads.patches_of, Names.numbers_of, Nodes.{is_forgotten_in, nodes_of, pending_in}, Pendings.sums_of}
 use Rattle.fst_graph.specs.{Known.{Known, DependsGate}, Ready.change_of, Remembered.remembered_known, Sound.{AreRemembered, AreSound, remembered_of}, Sparse.AddsSparse, declared.prepared.Gates.Gates}
-use Rattle.fst_graph.proofs.{Borne.{few_waiting, gain_room}, Made.{change_sound, gained_sound, may_enlist, may_go_on, may_lift, may_need, may_put, may_rise, named_patches, put_patches}, PutNow.{number_free, put_now, IsPutDown, IsPutNow}}
+use Rattle.fst_graph.proofs.{Borne.{few_waiting, gain_room}, Made.{change_sound, gained_sound, may_enlist, may_lift, may_need, may_put, may_rise, named_patches, put_patches}, PutNow.{number_free, put_now, IsPutDown, IsPutNow}}
 use Rattle.fst_graph.proofs.{Flagged.{gained_flags, gained_landed, gone_past, remembered_as, remembered_made, remembered_still}, Remembered.open_number, RememberedCalls.depend_known, RememberedLooks.live_few, RememberedSparse.pushed_remembered}
 use Rattle.fst_graph.proofs.{Readied.{ready_adds, ready_made}, Sound.{view_gone, view_long}, Shelf.put_remembered, TailGains.{member_kept, tail_may, tail_small}}
+use Rattle.fst_graph.proofs.GreatestNumber.{is_newest}
 use Rattle.fst_graph.proofs.sparse.Sparse.put_alone.Goals.{After-as_slice-row, After-put_down-pending, After-put-2}
 use Rattle.fst_graph.proofs.sparse.Sparse.put_alone.Goals as goal
 
@@ -31,14 +32,11 @@ lift-requires c =
 pub put-requires : goal.put-requires
 put-requires c = may_need c.self.invariant.0 (now (goal.at.put-requires c).After-as_slice-row).down refl c.as_slice-row.ensures
 
-pub ancestry_over-requires : goal.ancestry_over-requires
-ancestry_over-requires c = may_go_on c.self.invariant.0 (now (goal.at.ancestry_over-requires c).After-as_slice-row).down refl c.lift.ensures.leveled refl
-
 pub put_down-pending-requires : goal.put_down-pending-requires
 put_down-pending-requires c =
     let D = (now (goal.at.put_down-pending-requires c).After-as_slice-row).down in
     record {
-      newest = λ q there. let k = (c.self.invariant.0.keeps.lawful.one_place_each.numbered q there).1 in omega (arith, k);
+      newest = is_newest _ c.self.inside.numbers _ c.self.invariant.0.keeps.lawful c.lift.ensures.leveled;
       once = D.ready.depends.rising;
       above = D.prepared.around.0;
       few = few_waiting c.self.inside.columns.heads.list.items c.self.invariant.0.tallies.settled c.self.invariant.0.beside;
@@ -70,7 +68,7 @@ sound c D =
     change_sound c.self.invariant.0 D
     c.rise_of-rise.new.walk c.rise_of-rise.new.crossed c.put_down-pending.ensures.put c.put_down-pending.ensures.pending refl c.as_slice-row.ensures c.rise_of-rise.ensures.rise c.rise_of-rise.ensures.long
     refl c.lift.ensures.leveled c.lift.ensures.below c.lift.ensures.lifted c.lift.ensures.still
-    refl c.as_slice-row.ensures c.ancestry_over.ensures
+    refl c.as_slice-row.ensures (c.ancestry_over-ancestry.ensures _ _ c.lift.ensures.leveled (omega arith))
     refl c.as_slice-row.ensures (rw c.note.ensures.lists c.put.ensures.put)
     (rw (← c.put.ensures.ways) c.note.ensures.noted)
     c.enlist.ensures.listed

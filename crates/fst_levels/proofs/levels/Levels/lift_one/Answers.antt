@@ -1,12 +1,9 @@
 use Rattle.std.proofs.Common.{◌∙◌, refl, ap, subst, map, get_or, length, arith}
 use Rattle.fst_heads.specs.{Heads.{patch_of}, declared.head.Head.Head}
 use Rattle.fst_heads.proofs.Indices.{patch_at}
-use Rattle.fst_levels.proofs.{Ranked.ranks_rise, Raising.lifted_one}
+use Rattle.fst_levels.proofs.{Raising.lifted_one}
 use Rattle.fst_types.specs.Patches.{IsOn}
 use Rattle.fst_levels.proofs.levels.Levels.lift_one.Goals as goal
-
-pub raise-requires-clause-rising : goal.raise-requires-clause-rising
-raise-requires-clause-rising c = ranks_rise c.args.heads.now.list.items c.self.inside.ranks.items c.args.heads.now.rising (ap (λ v. map (λ r. r.number) v.ranks) c.self.view_is ∙ c.requires.aligned)
 
 pub raise_floor-requires : goal.raise_floor-requires
 raise_floor-requires c k on =
@@ -20,7 +17,7 @@ returns c =
     let heads = c.args.heads.now.list.items in
     let s = c.args.index in
     rw (← c.self.view_is)
-    (lifted_one heads c.args.heads.now.rising s c.requires.index c.args.to (record { ranks = c.self.inside.ranks.items; floors = c.self.inside.floors.items; room = c.self.inside.room }) (record { ranks = c.raise.new.ranks.items; floors = c.raise_floor.new.floors.items; room = c.self.inside.room }) (ap (λ v. map (λ r. r.number) v.ranks) c.self.view_is ∙ c.requires.aligned)
+    (lifted_one heads c.args.heads.now.rising s c.requires.index c.args.to (record { ranks = c.self.inside.ranks.list.items; floors = c.self.inside.floors.items; room = c.self.inside.room }) (record { ranks = c.raise.new.self.list.items; floors = c.raise_floor.new.floors.items; room = c.self.inside.room }) (ap (λ v. map (λ r. r.number) v.ranks) c.self.view_is ∙ c.requires.aligned)
     (c.raise.ensures.numbers)
     (c.raise_floor.ensures.long) refl
     c.raise.ensures.raised

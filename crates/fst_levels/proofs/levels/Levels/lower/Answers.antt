@@ -1,19 +1,16 @@
 use Rattle.std.proofs.lemmas.Grind.{common_steps}
-use Rattle.std.proofs.Common.{◌∙◌, ◌≤◌, ap, arith, get_or, length, map, refl, subst, sym, Contains}
+use Rattle.std.proofs.Common.{◌≤◌, ap, arith, get_or, length, refl, subst, sym, Contains}
 use Rattle.fst_heads.specs.{Heads.patches_of}
 use Rattle.fst_levels.specs.Leveling.{IsLeveled, Leveling, floor_of, level_of}
-use Rattle.fst_levels.proofs.{Highest.{max_first, max_second}, Lowered.lowered_is_leveled, Ranked.ranks_rise}
+use Rattle.fst_levels.proofs.{Highest.{max_first, max_second}, Lowered.lowered_is_leveled}
 use Rattle.fst_levels.proofs.levels.Levels.lower.Goals as goal
-
-pub raise-requires-clause-rising : goal.raise-requires-clause-rising
-raise-requires-clause-rising c = ranks_rise c.args.heads.now.list.items c.self.inside.ranks.items c.args.heads.now.rising (ap (λ v. map (λ r. r.number) v.ranks) c.self.view_is ∙ c.requires.leveled.aligned)
 
 pub returns-then-level-clause-leveled : goal.returns-then-level-clause-leveled
 returns-then-level-clause-leveled c =
     let heads = c.args.heads.now.list.items in
     let s = c.args.index in
-    let old : Leveling = record { ranks = c.self.inside.ranks.items; floors = c.self.inside.floors.items; room = c.self.inside.room } in
-    let new : Leveling = record { ranks = c.raise.new.ranks.items; floors = c.self.inside.floors.items; room = c.self.inside.room } in
+    let old : Leveling = record { ranks = c.self.inside.ranks.list.items; floors = c.self.inside.floors.items; room = c.self.inside.room } in
+    let new : Leveling = record { ranks = c.raise.new.self.list.items; floors = c.self.inside.floors.items; room = c.self.inside.room } in
     let first = max_first c.greatest-below.result c.own_level.result in
     let second = max_second c.greatest-below.result c.own_level.result in
     rw (← c.self.view_is)
