@@ -5,7 +5,7 @@ use Rattle.std.proofs.lemmas.List.Elements.{Contains-append_left, Contains-get_o
 use Rattle.fst_types.specs.Closure.{Closure, one, join}
 use Rattle.fst_heads.specs.Reaching.{IsReached}
 use Rattle.fst_heads.proofs.Indices.{any_default}
-use Rattle.fst_walks.specs.Descending.{GoesOn, IsLedFrom, Visits}
+use Rattle.fst_walks.specs.{Descending.{GoesOn, IsLedFrom, Visits}, Searching.Advances}
 use Rattle.fst_walks.proofs.Visiting.{visits_old}
 
 -- all that steps lead to from the first `at` in the queue is there
@@ -64,17 +64,39 @@ visits_on Steps turn queue new inside v = record {
   only = λ n c. elim (v.only n c) [ inl old ↦ inl old | inr s ↦ inr (get_or queue turn 0, Contains-get_or queue turn 0 inside, one s) ];
 }
 
--- and what is done stays done
-pub climbing_on : (Steps : ℕ → ℕ → Type 0) (start : List ℕ) (at : ℕ) (queue new : List ℕ) → at ≤ length queue → Climbing Steps start at queue → GoesOn Steps queue new → Climbing Steps start at new
-climbing_on Steps start at queue new past x on = record {
-  grown = (x.grown.0 ++ on.kept.0, on.kept.1 ∙ (ap (λ q. q ++ on.kept.0) x.grown.1 ∙ append_assoc start x.grown.0 on.kept.0));
-  only = λ n c. elim (on.only n c) [
-    | inl old ↦ x.only n old
-    | inr r ↦ elim (x.only r.0 r.1) [ inl begun ↦ inr (r.0, begun, r.2) | inr s ↦ inr (s.0, s.1, join s.2 r.2) ]
-  ];
+-- what steps lead to from what they lead to
+led_further : (Steps : ℕ → ℕ → Type 0) (start mid : List ℕ) → ((n : ℕ) → Contains mid n → IsLedFrom Steps start n) → (n : ℕ) → IsLedFrom Steps mid n → IsLedFrom Steps start n
+led_further Steps start mid led n m = elim m [
+  | inl c ↦ led n c
+  | inr r ↦ elim (led r.0 r.1) [ inl begun ↦ inr (r.0, begun, r.2) | inr s ↦ inr (s.0, s.1, join s.2 r.2) ]
+]
+
+-- a step from that turn
+pub advanced : (Steps : ℕ → ℕ → Type 0) (at : ℕ) (queue new : List ℕ) → at < length queue → Visits (Steps (get_or queue at 0)) queue new → Advances Steps at queue new
+advanced Steps at queue new inside v = record { on = visits_on Steps at queue new inside v; each = v.each }
+
+-- and then others
+pub advanced_on : (Steps : ℕ → ℕ → Type 0) (at : ℕ) (queue mid new : List ℕ) → Advances Steps at queue mid → GoesOn Steps mid new → Advances Steps at queue new
+advanced_on Steps at queue mid new a on = record {
+  on = record {
+    kept = (a.on.kept.0 ++ on.kept.0, on.kept.1 ∙ (ap (λ q. q ++ on.kept.0) a.on.kept.1 ∙ append_assoc queue a.on.kept.0 on.kept.0));
+    only = λ n c. led_further Steps queue mid a.on.only n (on.only n c);
+  };
+  each = λ n s. subst (λ m. Contains m n) (sym on.kept.1) (Contains-append_left mid on.kept.0 n (a.each n s));
+}
+
+-- so it is done at that turn too
+pub climbing_advanced : (Steps : ℕ → ℕ → Type 0) (start : List ℕ) (at : ℕ) (queue new : List ℕ) → at < length queue → Climbing Steps start at queue → Advances Steps at queue new → Climbing Steps start (at + 1) new
+climbing_advanced Steps start at queue new inside x a = record {
+  grown = (x.grown.0 ++ a.on.kept.0, a.on.kept.1 ∙ (ap (λ q. q ++ a.on.kept.0) x.grown.1 ∙ append_assoc start x.grown.0 a.on.kept.0));
+  only = λ n c. led_further Steps start queue x.only n (a.on.only n c);
   done = λ i q up lt s.
-      let here = ap (λ m. get_or m i 0) on.kept.1 ∙ get_or_append_left queue on.kept.0 0 i (omega (arith, up, past)) in
-      subst (λ m. Contains m q) (sym on.kept.1) (Contains-append_left queue on.kept.0 q (x.done i q up (omega (arith, up, past)) (subst (λ m. Steps m q) here s)));
+      let within : i < length queue = omega (arith, up, inside) in
+      let own = subst (λ m. Steps m q) (ap (λ m. get_or m i 0) a.on.kept.1 ∙ get_or_append_left queue a.on.kept.0 0 i within) s in
+      elim (next_or_done at i up) [
+        | inl before ↦ subst (λ m. Contains m q) (sym a.on.kept.1) (Contains-append_left queue a.on.kept.0 q (x.done i q before within own))
+        | inr here ↦ a.each q (subst (λ j. Steps (get_or queue j 0) q) here own)
+      ];
 }
 
 -- in the end all is met

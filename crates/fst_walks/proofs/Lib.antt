@@ -6,6 +6,7 @@ mod Visiting
 mod Away
 mod AsBefore
 mod Ascended
+mod Stepped
 mod CrossingBack
 pub mod Overlapped
 mod Told

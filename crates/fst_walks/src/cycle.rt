@@ -16,12 +16,12 @@ ghost use Rattle.fst_heads.specs.Heads.{IsRising, patches_of};
 ghost use Rattle.fst_heads.specs.Names.{numbers_of};
 ghost use Rattle.fst_heads.specs.Indices.{HasIndex};
 ghost use Rattle.fst_heads.specs.Nodes.{AreLinked, nodes_of, pending_in};
-ghost use Rattle.fst_walks.specs.Searching.{AreOver, IsBetween, IsNextAbove, IsNextHeld, StayApart, TellsGates, WalkApart};
+ghost use Rattle.fst_walks.specs.Searching.{Advances, AreOver, IsBetween, IsNext, MeetBoth, StandApart, StayApart, row_on};
 ghost use Rattle.fst_levels.specs.Sights.{Sees};
 ghost use Rattle.fst_walks.specs.Starting.{StartsAbove};
 ghost use Rattle.fst_levels.specs.Walks.{numbers_met};
 
-use crate::ends::{Ends, Looked, meets, turn_from_end};
+use crate::ends::{Ends, meets, turn_from_end};
 use crate::starts::{Starts, visit_starts};
 use fst_heads::head::Head;
 use fst_heads::pending::{Pending, is_pending};
@@ -57,85 +57,75 @@ pub(crate) fn visit_row(sight: &Sight<'_>, walk: &mut Walk, row: &[u32])
     }
 }
 
-// Visits those that directly depend on what the walk met there in turn and wait for an open gate. Answers how many it looked
-// at.
-fn step_above(sight: &Sight<'_>, walk: &mut Walk, at: usize) -> usize
+// Which way a walk goes: up to what directly depends on a patch, or down to what it directly depends on.
+#[derive(Clone, Copy)]
+enum Way {
+    Up,
+    Down,
+}
+
+// What is next to the head that way.
+fn row_of(head: &Head, way: Way) -> &[u32]
+    ensures { result.now ≡ row_on way head.now }
+{
+    match way {
+        Way::Up => head.dependants.as_slice(),
+        Way::Down => head.dependencies.as_slice(),
+    }
+}
+
+// How many are next to what the walk met there in turn.
+fn row_len(heads: &[Head], way: Way, walk: &Walk, at: usize) -> usize
+    requires walk { length walk.now.marks ≡ length heads.now }
+    requires at { at < length walk.now.met }
+{
+    row_of(&heads[walk.index_at(at)], way).len()
+}
+
+// Visits those next to what the walk met there in turn that wait for an open gate. Answers how many it looked at.
+fn step(sight: &Sight<'_>, way: Way, walk: &mut Walk, at: usize) -> usize
     requires sees { Sees sight.now }
     requires visited { Visited sight.now.heads.now.list.items walk.old }
     requires at { at < length walk.old.met }
     ensures visited { Visited sight.now.heads.now.list.items walk.new }
-    ensures visits { Visits (IsNextAbove (patches_of sight.now.heads.now.list.items) (pending_in (nodes_of sight.now.heads.now.list.items)) (slice_index_or (numbers_met sight.now.heads.now.list.items walk.old) at 0)) (numbers_met sight.now.heads.now.list.items walk.old) (numbers_met sight.now.heads.now.list.items walk.new) }
+    ensures visits { Visits (IsNext way (patches_of sight.now.heads.now.list.items) (pending_in (nodes_of sight.now.heads.now.list.items)) (slice_index_or (numbers_met sight.now.heads.now.list.items walk.old) at 0)) (numbers_met sight.now.heads.now.list.items walk.old) (numbers_met sight.now.heads.now.list.items walk.new) }
 {
     let index = walk.index_at(at);
-    let row = sight.heads.list[index].dependants.as_slice();
+    let row = row_of(&sight.heads.list[index], way);
     visit_row(sight, walk, row);
     row.len()
 }
 
-// Visits those that it directly depends on and that wait for an open gate. Answers how many it looked at.
-fn step_held(sight: &Sight<'_>, walk: &mut Walk, at: usize) -> usize
+// A step of a walk from what it met there in turn. Answers whether it met what the other has met.
+fn turn(
+    sight: &Sight<'_>,
+    way: Way,
+    walk: &mut Walk,
+    other: &Walk,
+    at: usize,
+    looked: &mut usize,
+) -> bool
     requires sees { Sees sight.now }
-    requires visited { Visited sight.now.heads.now.list.items walk.old }
+    requires apart { StandApart sight.now.heads.now.list.items walk.old other.now }
     requires at { at < length walk.old.met }
+    ensures visits { Visits (IsNext way (patches_of sight.now.heads.now.list.items) (pending_in (nodes_of sight.now.heads.now.list.items)) (slice_index_or (numbers_met sight.now.heads.now.list.items walk.old) at 0)) (numbers_met sight.now.heads.now.list.items walk.old) (numbers_met sight.now.heads.now.list.items walk.new) }
     ensures visited { Visited sight.now.heads.now.list.items walk.new }
-    ensures visits { Visits (IsNextHeld (patches_of sight.now.heads.now.list.items) (pending_in (nodes_of sight.now.heads.now.list.items)) (slice_index_or (numbers_met sight.now.heads.now.list.items walk.old) at 0)) (numbers_met sight.now.heads.now.list.items walk.old) (numbers_met sight.now.heads.now.list.items walk.new) }
+    ensures met { IsTrue result → MeetBoth sight.now.heads.now.list.items walk.new other.now }
+    ensures apart { result ≡ false → StandApart sight.now.heads.now.list.items walk.new other.now }
 {
-    let index = walk.index_at(at);
-    let row = sight.heads.list[index].dependencies.as_slice();
-    visit_row(sight, walk, row);
-    row.len()
+    let from = walk.len();
+    let more = step(sight, way, walk, at);
+    *looked = looked.saturating_add(more);
+    meets(sight, walk, other, from).is_some()
 }
 
-// A step of the walk up from what it met there in turn. Answers whether it met what the walk down has met.
-fn turn_up(sight: &Sight<'_>, ends: &mut Ends, at: usize, looked: &mut Looked) -> bool
-    requires sees { Sees sight.now }
-    requires apart { WalkApart sight.now.heads.now.list.items ends.old }
-    requires at { at < length ends.old.up.walk.met }
-    ensures visits { Visits (IsNextAbove (patches_of sight.now.heads.now.list.items) (pending_in (nodes_of sight.now.heads.now.list.items)) (slice_index_or (numbers_met sight.now.heads.now.list.items ends.old.up.walk) at 0)) (numbers_met sight.now.heads.now.list.items ends.old.up.walk) (numbers_met sight.now.heads.now.list.items ends.new.up.walk) }
-    ensures met { IsTrue result → ((n : ℕ) × Contains (numbers_met sight.now.heads.now.list.items ends.new.up.walk) n × Contains (numbers_met sight.now.heads.now.list.items ends.old.down.walk) n) }
-    ensures apart { result ≡ false → WalkApart sight.now.heads.now.list.items ends.new }
-    ensures over { AreOver sight.now.heads.now.list.items ends.new }
-    ensures down { ends.new.down ≡ ends.old.down }
-    ensures crossed { ends.new.up.crossed ≡ ends.old.up.crossed }
-{
-    let from = ends.up.walk.len();
-    let more = step_above(sight, &mut ends.up.walk, at);
-    looked.up = looked.up.saturating_add(more);
-    meets(sight, &ends.up.walk, &ends.down.walk, from).is_some()
-}
-
-// A step of the walk down from what it met there in turn. Answers whether it met what the walk up has met.
-fn turn_down(sight: &Sight<'_>, ends: &mut Ends, at: usize, looked: &mut Looked) -> bool
-    requires sees { Sees sight.now }
-    requires apart { WalkApart sight.now.heads.now.list.items ends.old }
-    requires at { at < length ends.old.down.walk.met }
-    ensures visits { Visits (IsNextHeld (patches_of sight.now.heads.now.list.items) (pending_in (nodes_of sight.now.heads.now.list.items)) (slice_index_or (numbers_met sight.now.heads.now.list.items ends.old.down.walk) at 0)) (numbers_met sight.now.heads.now.list.items ends.old.down.walk) (numbers_met sight.now.heads.now.list.items ends.new.down.walk) }
-    ensures met { IsTrue result → ((n : ℕ) × Contains (numbers_met sight.now.heads.now.list.items ends.old.up.walk) n × Contains (numbers_met sight.now.heads.now.list.items ends.new.down.walk) n) }
-    ensures apart { result ≡ false → WalkApart sight.now.heads.now.list.items ends.new }
-    ensures over { AreOver sight.now.heads.now.list.items ends.new }
-    ensures up { ends.new.up ≡ ends.old.up }
-    ensures crossed { ends.new.down.crossed ≡ ends.old.down.crossed }
-{
-    let from = ends.down.walk.len();
-    let more = step_held(sight, &mut ends.down.walk, at);
-    looked.down = looked.down.saturating_add(more);
-    meets(sight, &ends.down.walk, &ends.up.walk, from).is_some()
-}
-
-// How many the step up from what the walk met there in turn looks at.
-fn row_above(heads: &[Head], walk: &Walk, at: usize) -> usize
-    requires walk { length walk.now.marks ≡ length heads.now }
-    requires at { at < length walk.now.met }
-{
-    heads[walk.index_at(at)].dependants.as_slice().len()
-}
-
-// How many the step down does.
-fn row_below(heads: &[Head], walk: &Walk, at: usize) -> usize
-    requires walk { length walk.now.marks ≡ length heads.now }
-    requires at { at < length walk.now.met }
-{
-    heads[walk.index_at(at)].dependencies.as_slice().len()
+// How far a walk has come: at which turn it is from its beginning, from which turn on its end was looked at, and how many patches
+// it has looked at.
+#[derive(Clone, Copy)]
+struct Stand {
+    at: usize,
+    deep: usize,
+    looked: usize,
 }
 
 // Up to how many a step looks at in its turn, whatever the other walk has before it.
@@ -146,101 +136,73 @@ fn is_short(row: usize, looked: usize) -> bool {
     row <= FEW || row <= looked
 }
 
-// A step of the walk up from what it met last, `deep` of which were not looked at so, unless that is to look at many. Answers
-// whether it met what the walk down has met.
-fn turn_up_last(
-    sight: &Sight<'_>,
-    ends: &mut Ends,
-    at: usize,
-    deep: &mut usize,
-    looked: &mut Looked,
-) -> bool
+// A step of a walk from what it met last and was not looked at so, unless that is to look at many. Answers whether it met what
+// the other has met.
+fn turn_last(sight: &Sight<'_>, way: Way, walk: &mut Walk, other: &Walk, stand: &mut Stand) -> bool
     requires sees { Sees sight.now }
-    requires apart { WalkApart sight.now.heads.now.list.items ends.old }
-    requires at { at < length ends.old.up.walk.met }
-    requires deep { deep.old ≤ length ends.old.up.walk.met }
-    ensures goes_on { GoesOn (IsNextAbove (patches_of sight.now.heads.now.list.items) (pending_in (nodes_of sight.now.heads.now.list.items))) (numbers_met sight.now.heads.now.list.items ends.old.up.walk) (numbers_met sight.now.heads.now.list.items ends.new.up.walk) }
-    ensures met { IsTrue result → ((n : ℕ) × Contains (numbers_met sight.now.heads.now.list.items ends.new.up.walk) n × Contains (numbers_met sight.now.heads.now.list.items ends.old.down.walk) n) }
-    ensures apart { result ≡ false → WalkApart sight.now.heads.now.list.items ends.new }
-    ensures over { AreOver sight.now.heads.now.list.items ends.new }
-    ensures down { ends.new.down ≡ ends.old.down }
-    ensures crossed { ends.new.up.crossed ≡ ends.old.up.crossed }
-    ensures deep { deep.new ≤ length ends.new.up.walk.met }
+    requires apart { StandApart sight.now.heads.now.list.items walk.old other.now }
+    requires at { stand.old.at < length walk.old.met }
+    requires deep { stand.old.deep ≤ length walk.old.met }
+    ensures goes_on { GoesOn (IsNext way (patches_of sight.now.heads.now.list.items) (pending_in (nodes_of sight.now.heads.now.list.items))) (numbers_met sight.now.heads.now.list.items walk.old) (numbers_met sight.now.heads.now.list.items walk.new) }
+    ensures visited { Visited sight.now.heads.now.list.items walk.new }
+    ensures met { IsTrue result → MeetBoth sight.now.heads.now.list.items walk.new other.now }
+    ensures apart { result ≡ false → StandApart sight.now.heads.now.list.items walk.new other.now }
+    ensures at { stand.new.at ≡ stand.old.at }
+    ensures deep { stand.new.deep ≤ length walk.new.met }
 {
-    let before = ends.up.walk.len();
-    let last = turn_from_end(*deep, at, before);
-    *deep = last;
-    if !is_short(row_above(&sight.heads.list, &ends.up.walk, last), looked.up) {
+    let before = walk.len();
+    let last = turn_from_end(stand.deep, stand.at, before);
+    stand.deep = last;
+    if !is_short(row_len(&sight.heads.list, way, walk, last), stand.looked) {
         return false;
     }
-    let met = turn_up(sight, ends, last, looked);
-    let now = ends.up.walk.len();
+    let met = turn(sight, way, walk, other, last, &mut stand.looked);
+    let now = walk.len();
     if before < now {
-        *deep = now;
+        stand.deep = now;
     }
     met
 }
 
-// A step of the walk down from what it met last, likewise.
-fn turn_down_last(
-    sight: &Sight<'_>,
-    ends: &mut Ends,
-    at: usize,
-    deep: &mut usize,
-    looked: &mut Looked,
-) -> bool
+// A step of a walk from what it met first and was not looked at so, and one from what it met last. Answers whether it met what
+// the other has met.
+fn advance(sight: &Sight<'_>, way: Way, walk: &mut Walk, other: &Walk, stand: &mut Stand) -> bool
     requires sees { Sees sight.now }
-    requires apart { WalkApart sight.now.heads.now.list.items ends.old }
-    requires at { at < length ends.old.down.walk.met }
-    requires deep { deep.old ≤ length ends.old.down.walk.met }
-    ensures goes_on { GoesOn (IsNextHeld (patches_of sight.now.heads.now.list.items) (pending_in (nodes_of sight.now.heads.now.list.items))) (numbers_met sight.now.heads.now.list.items ends.old.down.walk) (numbers_met sight.now.heads.now.list.items ends.new.down.walk) }
-    ensures met { IsTrue result → ((n : ℕ) × Contains (numbers_met sight.now.heads.now.list.items ends.old.up.walk) n × Contains (numbers_met sight.now.heads.now.list.items ends.new.down.walk) n) }
-    ensures apart { result ≡ false → WalkApart sight.now.heads.now.list.items ends.new }
-    ensures over { AreOver sight.now.heads.now.list.items ends.new }
-    ensures up { ends.new.up ≡ ends.old.up }
-    ensures crossed { ends.new.down.crossed ≡ ends.old.down.crossed }
-    ensures deep { deep.new ≤ length ends.new.down.walk.met }
+    requires apart { StandApart sight.now.heads.now.list.items walk.old other.now }
+    requires at { stand.old.at < length walk.old.met }
+    requires deep { stand.old.deep ≤ length walk.old.met }
+    ensures advances { Advances (IsNext way (patches_of sight.now.heads.now.list.items) (pending_in (nodes_of sight.now.heads.now.list.items))) stand.old.at (numbers_met sight.now.heads.now.list.items walk.old) (numbers_met sight.now.heads.now.list.items walk.new) }
+    ensures visited { Visited sight.now.heads.now.list.items walk.new }
+    ensures met { IsTrue result → MeetBoth sight.now.heads.now.list.items walk.new other.now }
+    ensures apart { result ≡ false → StandApart sight.now.heads.now.list.items walk.new other.now }
+    ensures at { stand.new.at ≡ stand.old.at }
+    ensures deep { stand.new.deep ≤ length walk.new.met }
 {
-    let before = ends.down.walk.len();
-    let last = turn_from_end(*deep, at, before);
-    *deep = last;
-    if !is_short(
-        row_below(&sight.heads.list, &ends.down.walk, last),
-        looked.down,
-    ) {
-        return false;
+    if turn(sight, way, walk, other, stand.at, &mut stand.looked) {
+        return true;
     }
-    let met = turn_down(sight, ends, last, looked);
-    let now = ends.down.walk.len();
-    if before < now {
-        *deep = now;
-    }
-    met
+    turn_last(sight, way, walk, other, stand)
 }
 
 // Whether the next step is one up: it is the turn of the walk that has looked at less, but where that is to look at many, of the
 // one that will have looked at less.
-fn goes_up(heads: &[Head], ends: &Ends, up_at: usize, down_at: usize, looked: Looked) -> bool
+fn goes_up(heads: &[Head], ends: &Ends, up: Stand, down: Stand) -> bool
     requires over { AreOver heads.now ends.now }
-    requires up { up_at < length ends.now.up.walk.met }
-    requires down { down_at < length ends.now.down.walk.met }
+    requires up { up.at < length ends.now.up.walk.met }
+    requires down { down.at < length ends.now.down.walk.met }
 {
-    let is_turn = looked.up <= looked.down;
+    let is_turn = up.looked <= down.looked;
     let row = if is_turn {
-        row_above(heads, &ends.up.walk, up_at)
+        row_len(heads, Way::Up, &ends.up.walk, up.at)
     } else {
-        row_below(heads, &ends.down.walk, down_at)
+        row_len(heads, Way::Down, &ends.down.walk, down.at)
     };
     if row <= FEW {
         return is_turn;
     }
-    let up = looked
-        .up
-        .saturating_add(row_above(heads, &ends.up.walk, up_at));
-    let down = looked
-        .down
-        .saturating_add(row_below(heads, &ends.down.walk, down_at));
-    up <= down
+    let above = row_len(heads, Way::Up, &ends.up.walk, up.at);
+    let below = row_len(heads, Way::Down, &ends.down.walk, down.at);
+    up.looked.saturating_add(above) <= down.looked.saturating_add(below)
 }
 
 // Takes steps up and down, until one walk has met what the other has, or one is at its end. Answers whether they met. They
@@ -258,28 +220,25 @@ fn walks_meet(sight: &Sight<'_>, ends: &mut Ends) -> bool
     if meets(sight, &ends.up.walk, &ends.down.walk, 0).is_some() {
         return true;
     }
-    let mut looked = Looked { up: 0, down: 0 };
-    let mut up_at = 0;
-    let mut down_at = 0;
-    let mut up_deep = 0;
-    let mut down_deep = 0;
-    while up_at < ends.up.walk.len() && down_at < ends.down.walk.len() {
-        if goes_up(&sight.heads.list, ends, up_at, down_at, looked) {
-            if turn_up(sight, ends, up_at, &mut looked) {
+    let mut up = Stand {
+        at: 0,
+        deep: 0,
+        looked: 0,
+    };
+    let mut down = up;
+    while up.at < ends.up.walk.len() && down.at < ends.down.walk.len() {
+        if goes_up(&sight.heads.list, ends, up, down) {
+            let walk = &mut ends.up.walk;
+            if advance(sight, Way::Up, walk, &ends.down.walk, &mut up) {
                 return true;
             }
-            if turn_up_last(sight, ends, up_at, &mut up_deep, &mut looked) {
-                return true;
-            }
-            up_at += 1;
+            up.at += 1;
         } else {
-            if turn_down(sight, ends, down_at, &mut looked) {
+            let walk = &mut ends.down.walk;
+            if advance(sight, Way::Down, walk, &ends.up.walk, &mut down) {
                 return true;
             }
-            if turn_down_last(sight, ends, down_at, &mut down_deep, &mut looked) {
-                return true;
-            }
-            down_at += 1;
+            down.at += 1;
         }
     }
     false
