@@ -5,6 +5,7 @@ mod GroupWhole
 mod Kept
 mod MakeBeside
 mod MakeChanged
+mod MakeComing
 mod MakeReady
 mod MakeRefused
 mod MakeStep

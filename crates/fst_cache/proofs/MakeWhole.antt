@@ -1,7 +1,5 @@
 -- Making a change from end to end: room in the graph, the block in memory, its patch, the change in the graph.
 use Rattle.std.proofs.Common.{◌≡◌, ℕ, Bool, true, List, Option, refl, sym, subst, inl, inr, length}
-use Rattle.std.specs.Prelude.{Err, Ok, Result, IfOk, MatchResult}
-use Rattle.fst_types.specs.declared.number.PatchNo.{PatchNo}
 use Rattle.fst_types.specs.declared.fault.Fault.{Fault}
 use Rattle.fst_types.specs.declared.grade.Grade.{Grade}
 use Rattle.fst_types.specs.Making.{MakesChange}
@@ -11,7 +9,7 @@ use Rattle.fst_types.specs.Order.{make_order, IsLoadFault}
 use Rattle.fst_types.specs.Refusals.{NoneHolds}
 use Rattle.fst_types.specs.Step.{Step, accepted, refused, change}
 use Rattle.fst_types.proofs.Bounds.{step_keeps_lawful}
-use Rattle.fst_graph.specs.Known.{Known, unprepared, Prepared, AddsChange}
+use Rattle.fst_graph.specs.Known.{Known, Prepared, AddsChange}
 use Rattle.fst_seat.specs.Seats.{SeatsView}
 use Rattle.fst_seat.specs.Residing.{MayLoad}
 use Rattle.fst_cache.specs.declared.cache.Cache.TheInside.{Inside}
@@ -58,11 +56,3 @@ module _ {Slot : Type 0} (i : Inside Slot) (K : IsKept i) {graph : Known} {prepa
         (λ k other. same_else old changed given b at number bytes adds.row.dependencies grade adds.row.next adds.row.added P.added (same_blocks i K same P) k other)
         (seat_put old changed given b at number bytes adds.row.dependencies grade adds.row.next adds.row.added P.added (same_blocks i K same P)
         P.puts.seat ((kept_read i K same P).seat b P.puts.seat P.puts.at) P.puts.view P.puts.there)
-
--- the graph makes what it prepared, and what is prepared does not matter to what a change adds
-pub adds_prepared : {old : Known} {b at len : ℕ} {names : List ℕ} {number : ℕ} {grade : Grade} {new : Known} (r : Result (PatchNo × Grade) Fault)
-    → MatchResult r (λ made. (made.0.0 ≡ number) × (made.1 ≡ grade)) (λ f. ⊥) → IfOk r (λ made. AddsChange (unprepared old) b at len names made.0.0 made.1 new) → AddsChange old b at len names number grade new
-adds_prepared {old} {b} {at} {len} {names} {number} {grade} {new} (Ok made) same adds =
-    subst (λ (n : ℕ). AddsChange old b at len names n grade new) same.0 (subst (λ (g : Grade). AddsChange old b at len names made.0.0 g new) same.1
-    (record { clear = adds.clear; row = adds.row; numbers = adds.numbers; groups = adds.groups; blocks = adds.blocks; prepared = adds.prepared }))
-adds_prepared (Err f) same adds = absurd same

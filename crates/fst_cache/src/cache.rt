@@ -7,6 +7,7 @@
 //! says, a block with a change that is not on disk is in memory, no more blocks are in memory than may be, and the undo bytes
 //! are as many as are counted.
 
+mod change;
 mod gates;
 mod groups;
 mod look;

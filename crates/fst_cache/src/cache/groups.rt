@@ -9,7 +9,7 @@ ghost use Rattle.fst_cache.specs.Views.{IsSameBeside};
 ghost use Rattle.fst_seat.specs.Faults.{IsOneFaultMore};
 
 use crate::cache::Cache;
-use crate::cache::making::undo_bytes;
+use crate::cache::change::Coming;
 use crate::share::Share;
 use fst_device::BlockSlot;
 use fst_types::{BlockNo, Fault, Grade, GroupNo, PatchNo, Span, What};
@@ -86,28 +86,7 @@ impl<S: BlockSlot> Cache<S> {
         ensures homes { self.new.homes ≡ self.old.homes }
         ensures back { self.new.back ≡ self.old.back }
     {
-        if let Some(fault) = self.span_fault(share, block, at, bytes) {
-            return Err(fault);
-        }
-        let span = Span {
-            at,
-            len: bytes.len() as u32,
-        };
-        let (no, grade) = match self.graph.group_room(group, block, span) {
-            Ok(made) => made,
-            Err(fault) => return Err(fault),
-        };
-        if let Err(fault) = self.seats.put(block, no, span, bytes, grade) {
-            return Err(fault);
-        }
-        let Ok(_) = self.graph.group_patch(group, block, span) else {
-            unreachable!()
-        };
-        self.contents = self.contents.with(no, bytes);
-        self.undo += undo_bytes(grade, span);
-        self.made += 1;
-        share.rise();
-        Ok((no, grade))
+        self.change(share, Coming::InGroup(group), block, at, bytes)
     }
 
     /// Closes a group: no change is made for it any more, and its gates are sealed. It takes no memory.

@@ -1,25 +1,23 @@
 use Rattle.std.proofs.Common.{◌≡◌, ◌≤◌, ◌<◌, ◌+◌, length, refl, ap, inl, inr, arith, sym}
 use Rattle.std.proofs.lemmas.List.{length-map, set-get_or}
-use Rattle.fst_types.specs.Order.{make_order}
 use Rattle.fst_types.specs.Step.{refused}
-use Rattle.fst_graph.specs.Known.{Known, AddsChange}
-use Rattle.fst_seat.specs.Names.{numbers_of}
+use Rattle.fst_graph.specs.Known.{Known}
 use Rattle.fst_seat.specs.Residing.{MayLoad}
 use Rattle.fst_seat.proofs.Putting.{not_failed}
 use Rattle.fst_cache.specs.Kept.{state_of}
-use Rattle.fst_cache.specs.Making.{span_order, MayHold}
+use Rattle.fst_cache.specs.Coming.{adds_coming}
+use Rattle.fst_cache.specs.Making.{MayHold}
 use Rattle.fst_cache.proofs.SameRefused.{kept_unprepared, step_unprepared}
 use Rattle.fst_cache.proofs.ResideSeats.{room_for}
 use Rattle.fst_cache.proofs.ResideLoading.{Loaded, load_keeps, within_of}
-use Rattle.fst_cache.proofs.MakeRefused.{first_append, refused_by_graph}
 use Rattle.fst_cache.proofs.MakeReady.{as_long, newest, kept_ready}
 use Rattle.fst_cache.proofs.MakeStep.{IsPut}
-use Rattle.fst_cache.proofs.MakeWhole.{step_refused, step_made, kept_made, adds_prepared}
+use Rattle.fst_cache.proofs.MakeComing.{coming_changed, coming_kept, coming_left, coming_refused, span_refused}
 use Rattle.fst_cache.proofs.MakeBeside.{faults_made, homes_made, back_made}
 use Rattle.fst_cache.proofs.ResideUndo.{undo_is, undo_short}
 use Rattle.fst_cache.proofs.ResideShowing.{faults_of, load_fault, told}
-use Rattle.fst_cache.proofs.cache.Cache.patch.Goals.{In_default, In-Err-put, After-undo_bytes}
-use Rattle.fst_cache.proofs.cache.Cache.patch.Goals as goal
+use Rattle.fst_cache.proofs.cache.Cache.change.Goals.{In_default, In-Err-put, After-undo_bytes}
+use Rattle.fst_cache.proofs.cache.Cache.change.Goals as goal
 
 -- no rule that looks at the block alone refuses
 may_hold : (g : _) (c : In_default g) → MayHold (state_of c.self.inside) c.args.share.now c.args.block.0 c.args.at c.args.bytes.now
@@ -46,11 +44,11 @@ quiet : (g : _) (c : After-undo_bytes g) → faults_of c.put.new.self.seats ≡ 
 quiet g c = c.in_default-put.ensures.no_fault (λ e. not_failed e)
 
 -- the graph adds what it prepared
-adds : (g : _) (c : After-undo_bytes g) → AddsChange c.room.new.self c.args.block.0 c.args.at (length c.args.bytes.now) (numbers_of c.args.after.now) c.in-Ok.made.0.0 c.in-Ok.made.1 c.add_data.new.self
-adds g c = adds_prepared c.add_data.result (c.add_data.ensures.prepared c.in-Ok.made.0.0 c.in-Ok.made.1 (ap (λ (k : Known). k.prepared) c.in-Ok.ensures.prepared)) c.add_data.ensures.ok
+adds : (g : _) (c : After-undo_bytes g) → adds_coming c.args.coming c.prepare.new.graph c.args.block.0 c.args.at (length c.args.bytes.now) c.in-Ok.made.0.0 c.in-Ok.made.1 c.put_down.new.graph
+adds g c = c.put_down.ensures c.in-Ok.made.0.0 c.in-Ok.made.1 (ap (λ (k : Known). k.prepared) c.in-Ok.ensures.prepared)
 
 pub returns-in-Some-clause-step : goal.returns-in-Some-clause-step
-returns-in-Some-clause-step g c = refused (inl (first_append (span_order c.args.self.now.state c.args.share.now c.args.block.0 c.args.at c.args.bytes.now) (make_order c.args.self.now.state.heads c.args.self.now.state.numbers (numbers_of c.args.after.now)) c.in-Some.fault c.in-Some.ensures))
+returns-in-Some-clause-step g c = refused (span_refused c.args.self.now.state c.args.share.now c.args.block.0 c.args.at c.args.bytes.now c.args.coming _ c.in-Some.fault c.in-Some.ensures)
 
 -- a refusal leaves the counts and what the slots hold
 pub returns-in-Some-clause-share : goal.returns-in-Some-clause-share
@@ -95,8 +93,8 @@ returns-in-Err-put-clause-share g c = refl
 pub returns-clause-share : goal.returns-clause-share
 returns-clause-share g c = c.rise.ensures
 
-pub room-requires : goal.room-requires
-room-requires g c = rw c.self.invariant.graph_blocks (within g (goal.at.room-requires g c).In_default)
+pub prepare-requires : goal.prepare-requires
+prepare-requires g c = rw c.self.invariant.graph_blocks (within g (goal.at.prepare-requires g c).In_default)
 
 pub put-requires-clause-within : goal.put-requires-clause-within
 put-requires-clause-within g c = within g (goal.at.put-requires-clause-within g c).In_default
@@ -104,11 +102,11 @@ put-requires-clause-within g c = within g (goal.at.put-requires-clause-within g 
 pub put-requires-clause-same_length : goal.put-requires-clause-same_length
 put-requires-clause-same_length g c = refl
 
-pub add_data-requires : goal.add_data-requires
-add_data-requires g c = rw (c.room.ensures.blocks, c.self.invariant.graph_blocks) (within g (goal.at.add_data-requires g c).In_default)
+pub put_down-requires-clause-inside : goal.put_down-requires-clause-inside
+put_down-requires-clause-inside g c = rw (ap (λ (k : Known). k.blocks) c.in-Ok.ensures.prepared, c.self.invariant.graph_blocks) (within g (goal.at.put_down-requires-clause-inside g c).In_default)
 
-pub unreachable-requires : goal.unreachable-requires
-unreachable-requires g c = c.in_default-add_data.ensures.prepared c.in-Ok.made.0.0 c.in-Ok.made.1 (ap (λ (k : Known). k.prepared) c.in-Ok.ensures.prepared)
+pub put_down-requires-clause-prepared : goal.put_down-requires-clause-prepared
+put_down-requires-clause-prepared g c = (c.in-Ok.made.0.0, c.in-Ok.made.1, ap (λ (k : Known). k.prepared) c.in-Ok.ensures.prepared)
 
 pub overflow_add-self-2 : goal.overflow_add-self-2
 overflow_add-self-2 g c =
@@ -134,7 +132,7 @@ returns-in-Err-clause-step g c =
     let at = (goal.at.returns-in-Err-clause-step g c).In_default in
     rw (← c.self.view_is)
     (step_unprepared c.self.inside c.in-Err.ensures.same _ c.in-Err.fault
-    (refused_by_graph (state_of c.self.inside) c.args.share.now c.args.block.0 c.args.at c.args.bytes.now (may_hold g at) (numbers_of c.args.after.now) _ c.in-Err.fault c.in-Err.ensures.refused))
+    (coming_refused (state_of c.self.inside) c.args.share.now c.args.block.0 c.args.at c.args.bytes.now (may_hold g at) c.args.coming _ c.in-Err.fault c.in-Err.ensures.refused))
 
 pub put-requires-clause-room : goal.put-requires-clause-room
 put-requires-clause-room g c =
@@ -150,7 +148,7 @@ put-requires-clause-inside g c =
 pub put-requires-clause-newest : goal.put-requires-clause-newest
 put-requires-clause-newest g c =
     let at = (goal.at.put-requires-clause-newest g c).In_default in
-    λ seat at_b. newest c.self.inside c.self.invariant c.args.block.0 seat at_b c.in-Ok.made.0.0 c.in-Ok.ensures.ok.1.row.next
+    λ seat at_b. newest c.self.inside c.self.invariant c.args.block.0 seat at_b c.in-Ok.made.0.0 c.in-Ok.ensures.next
 
 pub invariant_of-self-in-Err-put : goal.invariant_of-self-in-Err-put
 invariant_of-self-in-Err-put g c =
@@ -162,7 +160,7 @@ returns-in-Err-put-clause-step g c =
     let at = (goal.at.returns-in-Err-put-clause-step g c).In-Err-put in
     let may = may_hold g (goal.at.returns-in-Err-put-clause-step g c).In_default in
     rw (← c.self.view_is)
-    (step_refused c.self.inside c.self.invariant c.in-Ok.ensures.prepared c.args.share.now c.args.block.0 c.args.at c.args.bytes.now (numbers_of c.args.after.now) may c.put.new.self c.put.ensures.most (loads g at) c.in-Ok.ensures.ok.1.clear c.in-Err-put.fault
+    (coming_left c.self.inside c.self.invariant c.in-Ok.ensures.prepared c.args.share.now c.args.block.0 c.args.at c.args.bytes.now may c.args.coming c.put.new.self c.put.ensures.most (loads g at) c.in-Ok.ensures.clear c.in-Err-put.fault
     (load_fault _ c.in-Err-put.fault _ refl c.in-Err-put.ensures.kinds c.in-Err-put.ensures.device))
 
 pub returns-in-Err-put-clause-faults : goal.returns-in-Err-put-clause-faults
@@ -190,13 +188,13 @@ pub invariant_of-self-2 : goal.invariant_of-self-2
 invariant_of-self-2 g c =
     let at = (goal.at.invariant_of-self-2 g c).After-undo_bytes in
     let may = may_hold g (goal.at.invariant_of-self-2 g c).In_default in
-    kept_made c.self.inside c.self.invariant c.in-Ok.ensures.prepared c.args.share.now c.args.block.0 c.args.at c.args.bytes.now (numbers_of c.args.after.now) may (put g at) (adds g at)
+    coming_kept c.self.inside c.self.invariant c.in-Ok.ensures.prepared c.args.share.now c.args.block.0 c.args.at c.args.bytes.now may c.args.coming (put g at) _ (adds g at)
 
 pub returns-clause-step : goal.returns-clause-step
 returns-clause-step g c =
     let at = (goal.at.returns-clause-step g c).After-undo_bytes in
     let may = may_hold g (goal.at.returns-clause-step g c).In_default in
-    rw (← c.self.view_is) (step_made c.self.inside c.self.invariant c.in-Ok.ensures.prepared c.args.share.now c.args.block.0 c.args.at c.args.bytes.now (numbers_of c.args.after.now) may (put g at) (adds g at) _)
+    rw (← c.self.view_is) (coming_changed c.self.inside c.self.invariant c.in-Ok.ensures.prepared c.args.share.now c.args.block.0 c.args.at c.args.bytes.now may c.args.coming (put g at) _ (adds g at) _)
 
 pub returns-clause-faults : goal.returns-clause-faults
 returns-clause-faults g c = rw (← c.self.view_is) (faults_made c.self.inside c.self.invariant (put g (goal.at.returns-clause-faults g c).After-undo_bytes).puts)
