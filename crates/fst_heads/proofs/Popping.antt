@@ -57,7 +57,7 @@ module _ {goes : Pending → Pending → Type 0} {far : Pending → ℕ} (way : 
         ap (λ ns. (get_or ns s d).dependants) after_is
         ∙ ap (λ (x : Node). x.dependants) (get_or-map (at_number q recorded) nodes s d d (omega (arith, found.0, length-map heads node_of)) ∙ (ap (at_number q recorded) (stands_there d) ∙ at_same q recorded here here_number))
 
-    -- what `tell` asks for
+    -- what `notify` asks for
     pub once_after : (d : Node) → AllPairs (λ m n. m ≢ n) (get_or after s d).dependants
     once_after d = subst (λ ms. AllPairs (λ m n. m ≢ n) ms) (sym (row_after d)) (distinct here here_in).1
 
