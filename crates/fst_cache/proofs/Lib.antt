@@ -5,7 +5,7 @@ mod GroupWhole
 mod Kept
 mod MakeBeside
 mod MakeChanged
-mod MakeComing
+mod MakeAfter
 mod MakeReady
 mod MakeRefused
 mod MakeStep

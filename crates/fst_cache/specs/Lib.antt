@@ -4,5 +4,5 @@ pub mod Replies
 pub mod Seats
 pub mod Kept
 pub mod Making
-pub mod Coming
+pub mod After
 pub mod Sending

@@ -11,7 +11,7 @@ ghost use Rattle.fst_types.specs.Step.{Step};
 ghost use Rattle.fst_block.specs.BlockView.{len_if_soft};
 ghost use Rattle.fst_graph.specs.Known.{Refuses, unprepared};
 ghost use Rattle.fst_seat.specs.Faults.{IsOneFaultMore};
-ghost use Rattle.fst_cache.specs.Coming.{adds_coming, coming_event, coming_order, prepared_coming};
+ghost use Rattle.fst_cache.specs.After.{adds_after, event_after, order_after, prepared_after};
 ghost use Rattle.fst_cache.specs.Making.{span_order, MayHold};
 
 use crate::cache::Cache;
@@ -22,8 +22,8 @@ use fst_types::{BlockNo, Fault, Grade, GroupNo, PatchNo, Span, What};
 
 /// What a change comes after: the patches that are named, or the head of its group, whose tail comes after it.
 #[derive(Clone, Copy)]
-pub(super) enum Coming<'a> {
-    After(&'a [PatchNo]),
+pub(super) enum After<'a> {
+    Named(&'a [PatchNo]),
     InGroup(GroupNo),
 }
 
@@ -41,36 +41,36 @@ fn undo_bytes(grade: Grade, span: Span) -> u64
 // Makes room in the graph for a change, and answers the number and the grade that it will have.
 fn prepare(
     graph: &mut Graph,
-    coming: Coming<'_>,
+    after: After<'_>,
     block: BlockNo,
     span: Span,
 ) -> Result<(PatchNo, Grade), Fault>
     requires { block.0 < graph.old.blocks }
-    ensures clear { OnOk result (NoneHolds (coming_order coming.entry graph.old.heads graph.old.numbers graph.old.groups block.0 span.at span.len)) }
+    ensures clear { OnOk result (NoneHolds (order_after after.entry graph.old.heads graph.old.numbers graph.old.groups block.0 span.at span.len)) }
     ensures next { IfOk result (λ made. made.0.0 ≡ graph.old.numbers + 1) }
-    ensures prepared { IfOk result (λ made. graph.new ≡ record graph.old { prepared = Some (prepared_coming coming.entry block.0 span.at span.len made.0.0 made.1) }) }
-    ensures refused { IfErr result (Refuses (coming_order coming.entry graph.old.heads graph.old.numbers graph.old.groups block.0 span.at span.len)) }
+    ensures prepared { IfOk result (λ made. graph.new ≡ record graph.old { prepared = Some (prepared_after after.entry block.0 span.at span.len made.0.0 made.1) }) }
+    ensures refused { IfErr result (Refuses (order_after after.entry graph.old.heads graph.old.numbers graph.old.groups block.0 span.at span.len)) }
     ensures same { OnErr result (graph.new ≡ unprepared graph.old) }
 {
-    match coming {
-        Coming::After(after) => graph.room(block, span, after),
-        Coming::InGroup(group) => graph.group_room(group, block, span),
+    match after {
+        After::Named(names) => graph.room(block, span, names),
+        After::InGroup(group) => graph.group_room(group, block, span),
     }
 }
 
 // Puts down the change that was prepared.
-fn put_down(graph: &mut Graph, coming: Coming<'_>, block: BlockNo, span: Span)
+fn put_down(graph: &mut Graph, after: After<'_>, block: BlockNo, span: Span)
     requires inside { block.0 < graph.old.blocks }
-    requires prepared { (number : ℕ) × (grade : Grade) × (graph.old.prepared ≡ Some (prepared_coming coming block.0 span.at span.len number grade)) }
-    ensures { (number : ℕ) (grade : Grade) → graph.old.prepared ≡ Some (prepared_coming coming.entry block.0 span.at span.len number grade) → adds_coming coming.entry graph.old block.0 span.at span.len number grade graph.new }
+    requires prepared { (number : ℕ) × (grade : Grade) × (graph.old.prepared ≡ Some (prepared_after after block.0 span.at span.len number grade)) }
+    ensures { (number : ℕ) (grade : Grade) → graph.old.prepared ≡ Some (prepared_after after.entry block.0 span.at span.len number grade) → adds_after after.entry graph.old block.0 span.at span.len number grade graph.new }
 {
-    match coming {
-        Coming::After(after) => {
-            let Ok(_) = graph.add_data(block, span, after) else {
+    match after {
+        After::Named(names) => {
+            let Ok(_) = graph.add_data(block, span, names) else {
                 unreachable!()
             };
         }
-        Coming::InGroup(group) => {
+        After::InGroup(group) => {
             let Ok(_) = graph.group_patch(group, block, span) else {
                 unreachable!()
             };
@@ -109,14 +109,14 @@ impl<S: BlockSlot> Cache<S> {
     pub(super) fn change(
         &mut self,
         share: &mut Share,
-        coming: Coming<'_>,
+        after: After<'_>,
         block: BlockNo,
         at: u32,
         bytes: &[u8],
     ) -> Result<(PatchNo, Grade), Fault>
         ensures step { MatchResult result
-            (λ made. Step self.old.state (coming_event coming.entry share.old block.0 at bytes.now (faults_rose self.old.faults self.new.faults block.0)) (MadeChange made.0.0 made.1) self.new.state)
-            (λ fault. Step self.old.state (coming_event coming.entry share.old block.0 at bytes.now (faults_rose self.old.faults self.new.faults block.0)) (Refused fault) self.new.state) }
+            (λ made. Step self.old.state (event_after after.entry share.old block.0 at bytes.now (faults_rose self.old.faults self.new.faults block.0)) (MadeChange made.0.0 made.1) self.new.state)
+            (λ fault. Step self.old.state (event_after after.entry share.old block.0 at bytes.now (faults_rose self.old.faults self.new.faults block.0)) (Refused fault) self.new.state) }
         ensures share { MatchResult result (λ made. share.new ≡ share.old + 1) (λ fault. share.new ≡ share.old) }
         ensures faults { self.new.faults ≡ slice_set self.old.faults block.0 (slice_index self.new.faults block.0) }
         ensures one_fault { IsOneFaultMore self.old.faults block.0 self.new.faults }
@@ -131,14 +131,14 @@ impl<S: BlockSlot> Cache<S> {
             at,
             len: bytes.len() as u32,
         };
-        let (no, grade) = match prepare(&mut self.graph, coming, block, span) {
+        let (no, grade) = match prepare(&mut self.graph, after, block, span) {
             Ok(made) => made,
             Err(fault) => return Err(fault),
         };
         if let Err(fault) = self.seats.put(block, no, span, bytes, grade) {
             return Err(fault);
         }
-        put_down(&mut self.graph, coming, block, span);
+        put_down(&mut self.graph, after, block, span);
         self.contents = self.contents.with(no, bytes);
         self.undo += undo_bytes(grade, span);
         self.made += 1;

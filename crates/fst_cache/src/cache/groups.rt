@@ -9,7 +9,7 @@ ghost use Rattle.fst_cache.specs.Views.{IsSameBeside};
 ghost use Rattle.fst_seat.specs.Faults.{IsOneFaultMore};
 
 use crate::cache::Cache;
-use crate::cache::change::Coming;
+use crate::cache::change::After;
 use crate::share::Share;
 use fst_device::BlockSlot;
 use fst_types::{BlockNo, Fault, Grade, GroupNo, PatchNo, Span, What};
@@ -86,7 +86,7 @@ impl<S: BlockSlot> Cache<S> {
         ensures homes { self.new.homes ≡ self.old.homes }
         ensures back { self.new.back ≡ self.old.back }
     {
-        self.change(share, Coming::InGroup(group), block, at, bytes)
+        self.change(share, After::InGroup(group), block, at, bytes)
     }
 
     /// Closes a group: no change is made for it any more, and its gates are sealed. It takes no memory.

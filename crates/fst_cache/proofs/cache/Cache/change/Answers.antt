@@ -5,14 +5,14 @@ use Rattle.fst_graph.specs.Known.{Known}
 use Rattle.fst_seat.specs.Residing.{MayLoad}
 use Rattle.fst_seat.proofs.Putting.{not_failed}
 use Rattle.fst_cache.specs.Kept.{state_of}
-use Rattle.fst_cache.specs.Coming.{adds_coming}
+use Rattle.fst_cache.specs.After.{adds_after}
 use Rattle.fst_cache.specs.Making.{MayHold}
 use Rattle.fst_cache.proofs.SameRefused.{kept_unprepared, step_unprepared}
 use Rattle.fst_cache.proofs.ResideSeats.{room_for}
 use Rattle.fst_cache.proofs.ResideLoading.{Loaded, load_keeps, within_of}
 use Rattle.fst_cache.proofs.MakeReady.{as_long, newest, kept_ready}
 use Rattle.fst_cache.proofs.MakeStep.{IsPut}
-use Rattle.fst_cache.proofs.MakeComing.{coming_changed, coming_kept, coming_left, coming_refused, span_refused}
+use Rattle.fst_cache.proofs.MakeAfter.{after_changed, after_kept, after_left, after_refused, span_refused}
 use Rattle.fst_cache.proofs.MakeBeside.{faults_made, homes_made, back_made}
 use Rattle.fst_cache.proofs.ResideUndo.{undo_is, undo_short}
 use Rattle.fst_cache.proofs.ResideShowing.{faults_of, load_fault, told}
@@ -44,11 +44,11 @@ quiet : (g : _) (c : After-undo_bytes g) → faults_of c.put.new.self.seats ≡ 
 quiet g c = c.in_default-put.ensures.no_fault (λ e. not_failed e)
 
 -- the graph adds what it prepared
-adds : (g : _) (c : After-undo_bytes g) → adds_coming c.args.coming c.prepare.new.graph c.args.block.0 c.args.at (length c.args.bytes.now) c.in-Ok.made.0.0 c.in-Ok.made.1 c.put_down.new.graph
+adds : (g : _) (c : After-undo_bytes g) → adds_after c.args.after c.prepare.new.graph c.args.block.0 c.args.at (length c.args.bytes.now) c.in-Ok.made.0.0 c.in-Ok.made.1 c.put_down.new.graph
 adds g c = c.put_down.ensures c.in-Ok.made.0.0 c.in-Ok.made.1 (ap (λ (k : Known). k.prepared) c.in-Ok.ensures.prepared)
 
 pub returns-in-Some-clause-step : goal.returns-in-Some-clause-step
-returns-in-Some-clause-step g c = refused (span_refused c.args.self.now.state c.args.share.now c.args.block.0 c.args.at c.args.bytes.now c.args.coming _ c.in-Some.fault c.in-Some.ensures)
+returns-in-Some-clause-step g c = refused (span_refused c.args.self.now.state c.args.share.now c.args.block.0 c.args.at c.args.bytes.now c.args.after _ c.in-Some.fault c.in-Some.ensures)
 
 -- a refusal leaves the counts and what the slots hold
 pub returns-in-Some-clause-share : goal.returns-in-Some-clause-share
@@ -132,7 +132,7 @@ returns-in-Err-clause-step g c =
     let at = (goal.at.returns-in-Err-clause-step g c).In_default in
     rw (← c.self.view_is)
     (step_unprepared c.self.inside c.in-Err.ensures.same _ c.in-Err.fault
-    (coming_refused (state_of c.self.inside) c.args.share.now c.args.block.0 c.args.at c.args.bytes.now (may_hold g at) c.args.coming _ c.in-Err.fault c.in-Err.ensures.refused))
+    (after_refused (state_of c.self.inside) c.args.share.now c.args.block.0 c.args.at c.args.bytes.now (may_hold g at) c.args.after _ c.in-Err.fault c.in-Err.ensures.refused))
 
 pub put-requires-clause-room : goal.put-requires-clause-room
 put-requires-clause-room g c =
@@ -160,7 +160,7 @@ returns-in-Err-put-clause-step g c =
     let at = (goal.at.returns-in-Err-put-clause-step g c).In-Err-put in
     let may = may_hold g (goal.at.returns-in-Err-put-clause-step g c).In_default in
     rw (← c.self.view_is)
-    (coming_left c.self.inside c.self.invariant c.in-Ok.ensures.prepared c.args.share.now c.args.block.0 c.args.at c.args.bytes.now may c.args.coming c.put.new.self c.put.ensures.most (loads g at) c.in-Ok.ensures.clear c.in-Err-put.fault
+    (after_left c.self.inside c.self.invariant c.in-Ok.ensures.prepared c.args.share.now c.args.block.0 c.args.at c.args.bytes.now may c.args.after c.put.new.self c.put.ensures.most (loads g at) c.in-Ok.ensures.clear c.in-Err-put.fault
     (load_fault _ c.in-Err-put.fault _ refl c.in-Err-put.ensures.kinds c.in-Err-put.ensures.device))
 
 pub returns-in-Err-put-clause-faults : goal.returns-in-Err-put-clause-faults
@@ -188,13 +188,13 @@ pub invariant_of-self-2 : goal.invariant_of-self-2
 invariant_of-self-2 g c =
     let at = (goal.at.invariant_of-self-2 g c).After-undo_bytes in
     let may = may_hold g (goal.at.invariant_of-self-2 g c).In_default in
-    coming_kept c.self.inside c.self.invariant c.in-Ok.ensures.prepared c.args.share.now c.args.block.0 c.args.at c.args.bytes.now may c.args.coming (put g at) _ (adds g at)
+    after_kept c.self.inside c.self.invariant c.in-Ok.ensures.prepared c.args.share.now c.args.block.0 c.args.at c.args.bytes.now may c.args.after (put g at) _ (adds g at)
 
 pub returns-clause-step : goal.returns-clause-step
 returns-clause-step g c =
     let at = (goal.at.returns-clause-step g c).After-undo_bytes in
     let may = may_hold g (goal.at.returns-clause-step g c).In_default in
-    rw (← c.self.view_is) (coming_changed c.self.inside c.self.invariant c.in-Ok.ensures.prepared c.args.share.now c.args.block.0 c.args.at c.args.bytes.now may c.args.coming (put g at) _ (adds g at) _)
+    rw (← c.self.view_is) (after_changed c.self.inside c.self.invariant c.in-Ok.ensures.prepared c.args.share.now c.args.block.0 c.args.at c.args.bytes.now may c.args.after (put g at) _ (adds g at) _)
 
 pub returns-clause-faults : goal.returns-clause-faults
 returns-clause-faults g c = rw (← c.self.view_is) (faults_made c.self.inside c.self.invariant (put g (goal.at.returns-clause-faults g c).After-undo_bytes).puts)
