@@ -52,7 +52,7 @@ needing_gained {needs = needs} old g names rising disk in_order rests gate N = r
 pub needing_left : {blocks : ℕ} {needs : Needing} (old : List Patch) → IsRising old → IsOnDiskWithAll old → IsRising (filter is_live old) → IsOnDiskWithAll (filter is_live old) → IsNeeding old blocks needs → IsNeeding (filter is_live old) blocks needs
 needing_left {needs = needs} old rising disk in_order rests N = record {
   long = N.long;
-  needed = left_needed old rising (needs_of needs.lists) N.needed;
+  needed = left_needed old rising disk (needs_of needs.lists) N.needed;
   back = all_stay old (filter is_live old) rising disk in_order rests Any (λ c d e. tt) (stays_left old) needs.ways (λ w c b. end_left old b w.end) N.back;
 }
 

@@ -20,7 +20,7 @@ pub mod OwnBlock
 pub mod Backed
 pub mod EndsWere
 pub mod Trails
-mod Leveled
+pub mod Leveled
 mod Lifted
 mod Lowered
 mod Eased

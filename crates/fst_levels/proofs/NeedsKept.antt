@@ -1,9 +1,10 @@
 -- What keeps what the blocks need: patches that are the same but for their places, where hard changes of one block at one place stay together.
 use Rattle.std.proofs.Common.{◌≡◌, ◌⊎◌, ℕ, List, Contains, sym, ap, subst, ◌∙◌, inl, inr}
 use Rattle.fst_types.specs.{Dependencies.DirectlyOn, Gates.IsOpenNumber, Patches.{Patch, IsOn, IsHard, IsLive, OpenGate, block_of_kind, grade_of_kind}, declared.place.Place.Place}
+use Rattle.fst_types.proofs.Alike.{closure_map}
 use Rattle.fst_heads.specs.{Grading.IsHardNumber, Indices.PassesAt}
 use Rattle.fst_heads.proofs.Graded.{off_from, off_to}
-use Rattle.fst_levels.specs.Needing.{AreNeeded, IsHardAt, IsSpared, StaysOn}
+use Rattle.fst_levels.specs.Needing.{AreNeeded, IsHardAt, IsNeededBy, IsSpared, StaysOn}
 use Rattle.fst_levels.proofs.Staying.{still_stays}
 use Rattle.fst_types.specs.declared.place.Place.TheVariants as place
 use Rattle.fst_heads.specs.declared.test.Test.TheVariants as test
@@ -20,7 +21,7 @@ pub record GoOn (old new : List Patch) (needs kept : ℕ → List ℕ) : Type 0 
   pub direct : (c h q : ℕ) → IsHardNumber new c h → DirectlyOn new h q → DirectlyOn old h q
   pub headed : (q : Patch) → Contains new q → (o : Patch) × Contains old o × (o.number ≡ q.number)
   pub fewer : (c n : ℕ) → Contains (kept c) n → Contains (needs c) n
-  pub stays : (c n h : ℕ) → Contains (kept c) n → IsHardNumber old c h → DirectlyOn old h n → IsHardNumber new c h × DirectlyOn new h n
+  pub stays : (c n h : ℕ) → Contains (kept c) n → IsNeededBy old c n h → IsNeededBy new c n h
   pub all : (c h n : ℕ) → IsHardNumber new c h → Contains (needs c) n → Contains (kept c) n
   pub together : (q : Patch) (at : Place) (d : ℕ) → Contains new q → IsHardAt old at d q.number → (to : Place) × IsHardAt new to d q.number × ((n : ℕ) → IsHardAt old at d n → IsHardAt new to d n)
   pub staying : (c n : ℕ) → StaysOn old c n → StaysOn new c n
@@ -28,7 +29,7 @@ pub record GoOn (old new : List Patch) (needs kept : ℕ → List ℕ) : Type 0 
 -- they stay so
 pub goes_on : (old new : List Patch) (needs kept : ℕ → List ℕ) → GoOn old new needs kept → AreNeeded old needs → AreNeeded new kept
 goes_on old new needs kept G N = record {
-  named = λ c n k. let o = N.named c n (G.fewer c n k) in let s = G.stays c n o.0 k o.1 o.2 in (o.0, s.0, s.1);
+  named = λ c n k. let o = N.named c n (G.fewer c n k) in (o.0, G.stays c n o.0 k o.1);
   whole = λ c h q hard head d.
       let o = G.headed q head in
       let told : Contains (needs c) q.number ⊎ IsSpared old c (needs c) q.number =
@@ -105,7 +106,11 @@ module _ (old new : List Patch) (go : Place → ℕ → Place) (back : (p : Patc
     direct = λ c h q hard d. direct_was h q d;
     headed = λ q h. let r = back q h in (r.0, r.1, sym r.2.number);
     fewer = λ c n k. (fewer c n k).0;
-    stays = λ c n h k hard d. (at_hard new c h (subst (λ a. IsHardAt new a c h) (fewer c n k).1 (at_forth place.Memory c h (hard_at old c h hard))), direct_is h n d);
+    stays = λ c n h k o. record {
+      hard = at_hard new c h (subst (λ a. IsHardAt new a c h) (fewer c n k).1 (at_forth place.Memory c h (hard_at old c h o.hard)));
+      older = o.older;
+      depends = λ q head e. let r = back q head in closure_map (DirectlyOn old) (DirectlyOn new) direct_is h n (o.depends r.0 r.1 (sym r.2.number ∙ e));
+    };
     all = λ c h n hard k. all c n (still c h hard) k;
     together = λ q at d head h. (go at d, at_forth at d q.number h, λ n o. at_forth at d n o);
     staying = still_stays old new direct_was open_was off_was;

@@ -1,6 +1,6 @@
--- What is kept of the block graph. What blocks need: for each block, of what its hard changes in memory directly depend on, as much as a walk down has to go on from where it crosses the block. Hard changes of a block are written together, so one of them stands for all that are at the same place.
-use Rattle.std.specs.Prelude.{◌≡◌, ◌≢◌, ◌≤◌, ◌⊎◌, ℕ, List, Option, Some, [], length, Contains, slice_index_or}
-use Rattle.fst_types.specs.{Dependencies.DirectlyOn, Gates.IsOpenNumber, Patches.{Patch, IsOn, IsHard}, declared.grade.Grade.Grade, declared.place.Place.Place}
+-- What is kept of the block graph. What blocks need: for each block, of what its hard changes in memory directly depend on, as much as a walk down has to go on from where it crosses the block, and perhaps more of what they depend on. Hard changes of a block are written together, so one of them stands for all that are at the same place.
+use Rattle.std.specs.Prelude.{◌≡◌, ◌≢◌, ◌≤◌, ◌<◌, ◌⊎◌, ℕ, List, Option, Some, [], length, Contains, slice_index_or}
+use Rattle.fst_types.specs.{Dependencies.{DirectlyOn, DependsOn}, Gates.IsOpenNumber, Patches.{Patch, IsOn, IsHard}, declared.grade.Grade.Grade, declared.place.Place.Place}
 use Rattle.fst_types.specs.declared.grade.Grade.TheVariants as grade
 use Rattle.fst_heads.specs.{Grading.IsHardNumber, Indices.{IsAbove, PassesAt}}
 use Rattle.fst_heads.specs.declared.test.Test.TheVariants as test
@@ -31,9 +31,15 @@ pub record StaysOn (patches : List Patch) (c q : ℕ) : Type 0 where
 abbrev pub IsSpared : List Patch → ℕ → List ℕ → ℕ → Type 0
 IsSpared patches c row q = IsStoodFor patches c row q ⊎ StaysOn patches c q
 
--- each number that is kept for a block is what a hard change of it in memory directly depends on, and whatever such a change directly depends on, if it is not forgotten, is kept or spared
+-- h is a hard change of block c in memory, newer than n, and depends on it if that is not forgotten
+pub record IsNeededBy (patches : List Patch) (c n h : ℕ) : Type 0 where
+  pub hard : IsHardNumber patches c h
+  pub older : n < h
+  pub depends : (q : Patch) → Contains patches q → q.number ≡ n → DependsOn patches h n
+
+-- each number that is kept for a block is of what a hard change of it in memory depends on, and whatever such a change directly depends on, if it is not forgotten, is kept or spared
 pub record AreNeeded (patches : List Patch) (needs : ℕ → List ℕ) : Type 0 where
-  pub named : (c n : ℕ) → Contains (needs c) n → (h : ℕ) × IsHardNumber patches c h × DirectlyOn patches h n
+  pub named : (c n : ℕ) → Contains (needs c) n → (h : ℕ) × IsNeededBy patches c n h
   pub whole : (c h : ℕ) (q : Patch) → IsHardNumber patches c h → Contains patches q → DirectlyOn patches h q.number → Contains (needs c) q.number ⊎ IsSpared patches c (needs c) q.number
 
 -- the numbers that are kept for block c
@@ -72,13 +78,24 @@ IsNoted number end old new = (w : Way) → Contains new w → Contains old w ⊎
 abbrev pub IsKnown : List Way → ℕ → ℕ → Type 0
 IsKnown ways n end = (w : Way) × Contains ways w × (w.number ≡ n) × (w.end ≡ end)
 
--- what is kept for block b grew by a new change of it with that row and grade: where it is hard, by what of the row is not spared
+-- n is in the row, or one of the row depends on it
+abbrev pub IsAtOrUnder : List Patch → List ℕ → ℕ → Type 0
+IsAtOrUnder patches row n = Contains row n ⊎ ((t : ℕ) × Contains row t × DependsOn patches t n)
+
+-- what is kept for block b grew by a new change of it with that row and grade: where it is hard, by what of the row is not spared, and perhaps by some of what is under the row
 pub record IsPut (patches : List Patch) (b : ℕ) (row : List ℕ) (g : Grade) (old new : List (List ℕ)) : Type 0 where
   pub long : length new ≡ length old
   pub others : (c : ℕ) → c ≢ b → needs_of new c ≡ needs_of old c
   pub kept : (n : ℕ) → Contains (needs_of old b) n → Contains (needs_of new b) n
-  pub only : (n : ℕ) → Contains (needs_of new b) n → Contains (needs_of old b) n ⊎ ((g ≡ grade.Hard) × Contains row n)
+  pub only : (n : ℕ) → Contains (needs_of new b) n → Contains (needs_of old b) n ⊎ ((g ≡ grade.Hard) × IsAtOrUnder patches row n)
   pub told : g ≡ grade.Hard → (q : ℕ) → Contains row q → Contains (needs_of new b) q ⊎ IsSpared patches b (needs_of new b) q
+
+-- what is kept for block b grew by numbers of which that holds
+pub record IsBesides (b : ℕ) (P : ℕ → Type 0) (old new : List (List ℕ)) : Type 0 where
+  pub long : length new ≡ length old
+  pub others : (c : ℕ) → c ≢ b → needs_of new c ≡ needs_of old c
+  pub kept : (n : ℕ) → Contains (needs_of old b) n → Contains (needs_of new b) n
+  pub only : (n : ℕ) → Contains (needs_of new b) n → Contains (needs_of old b) n ⊎ P n
 
 -- each block has its numbers, and all is as it should be
 pub record IsNeeding (patches : List Patch) (blocks : ℕ) (needs : Needing) : Type 0 where

@@ -1,34 +1,46 @@
 //! What blocks need: where a walk down goes on when it crosses a block. Of each block the numbers are kept of what its hard
 //! changes in memory directly depend on, but of the hard changes of one block one for all, since they are written together,
 //! and none that waits for changes of the block alone, since a walk would only come back to the block that it crosses. So a
-//! walk looks at each block that the block needs once, and not at each of its changes. Beside that the ways are kept that
-//! were seen to lead from a soft change back to its block, each with its end. What is on a way waits for its end, so that it
+//! walk looks at each block that the block needs once, and not at each of its changes. Besides, where such a need is a soft
+//! change that others lie below, the first of these of each other block is kept too: so that the block needs one of that
+//! block is told by its needs, and not by a walk through soft changes each time. Beside that the ways are kept that were
+//! seen to lead from a soft change back to its block, each with its end. What is on a way waits for its end, so that it
 //! stays there until that is on disk, and a new change over such a change of its block is soft too.
 
-ghost use Rattle.std.specs.Prelude.{◌≡◌, ◌≢◌, ◌≤◌, ◌<◌, ◌+◌, ◌∷◌, [], ℕ, IsTrue, length, map, Contains, IfOk, IfSome, OnOk};
+ghost use Rattle.std.specs.Prelude.{vec_capacity, vec_len, ◌≡◌, ◌≢◌, ◌≤◌, ◌<◌, ◌+◌, ◌⊎◌, ◌∷◌, [], ℕ, IsTrue, length, map, Contains, IfOk, IfSome, OnOk};
 ghost use Rattle.fst_types.specs.declared.grade.Grade.TheVariants as grade;
+ghost use Rattle.fst_types.specs.Dependencies.{DirectlyOn};
 ghost use Rattle.fst_types.specs.Facts.{IsOnDiskWithAll};
 ghost use Rattle.fst_heads.specs.Grading.{IsHardNumber};
 ghost use Rattle.fst_heads.specs.Heads.{patches_of};
 ghost use Rattle.fst_heads.specs.Nodes.{nodes_of, AreSettled};
 ghost use Rattle.fst_levels.specs.declared.needs.Need.{Need};
 ghost use Rattle.fst_levels.specs.declared.needs.Way.{Way};
-ghost use Rattle.fst_levels.specs.Needing.{IsKnown, IsNeeding, IsNoted, IsPut, IsSpared, IsStoodFor, StaysOn, needs_of};
+ghost use Rattle.fst_levels.specs.Needing.{IsAtOrUnder, IsBesides, IsKnown, IsNeeding, IsNoted, IsPut, IsSpared, IsStoodFor, StaysOn, needs_of};
 
-use crate::shortcuts::{is_hard_in, is_hard_number, is_own};
-use fst_heads::head::Kind;
+use crate::shortcuts::{is_hard_in, is_hard_number, is_own, newest_few};
+use fst_heads::head::{Head, Kind};
 use fst_heads::heads::Heads;
 use fst_heads::row::{is_live_number, pending_at};
+use fst_heads::test::is_live;
 use fst_types::Grade;
 use std::alloc::{AllocError, Global};
 use std::marker::Model;
 
-/// A patch that a block needs, and if it was a hard change in memory the block that it is of, so that one that stands for
-/// others is found without a look at heads.
+/// What a patch was when it was kept as a need: a hard change in memory of that block, another change of it, or no change.
+#[derive(Clone, Copy)]
+pub enum Was {
+    Hard(u32),
+    Other(u32),
+    NoChange,
+}
+
+/// A patch that a block needs, and what it was, so that one that stands for others, and one of a block that is looked for,
+/// are found without a look at heads.
 #[derive(Clone, Copy)]
 pub struct Need {
     pub number: u32,
-    pub of: Option<u32>,
+    pub was: Was,
 }
 
 /// A way back, from the soft change with the number to the change of its block at its end.
@@ -39,13 +51,15 @@ pub struct Way {
 }
 
 /// What each block needs. Of one block there is room for so many more. `ways` has the known ways, as the numbers of their
-/// changes rise. It takes a list for each block, 12 bytes for each need and 8 for each way.
+/// changes rise; `below` has what was met below a row last, and a place for sixteen. It takes a list for each block, 12 bytes
+/// for each need and 8 for each way.
 #[derive(Drop)]
 pub struct Needs {
     lists: Vec<Vec<Need>>,
     block: u32,
     room: usize,
     ways: Vec<Way>,
+    below: Vec<u32>,
 }
 
 impl Model for Needs {
@@ -63,13 +77,25 @@ impl Model for Needs {
 // At how many of the needs one is looked for that stands for another: where none of these does, one more is kept.
 const LOOKS: usize = 1024;
 
-// The place of the newest of the needs that was kept as a hard change of the block.
-fn newest_of(needs: &[Need], block: u32) -> Option<usize>
+// How many patches at or below a row are looked at for what a block needs besides.
+const BELOW: usize = 16;
+
+// Whether it was a change of the block, and a hard one in memory if that is asked.
+fn was_of(was: Was, block: u32, hard: bool) -> bool {
+    match was {
+        Was::Hard(of) => of == block,
+        Was::Other(of) => !hard && of == block,
+        Was::NoChange => false,
+    }
+}
+
+// The place of the newest of the needs that was kept as a change of the block, a hard one if that is asked.
+fn newest_of(needs: &[Need], block: u32, hard: bool) -> Option<usize>
     ensures { IfSome result (λ at. at < length needs.now) }
 {
     for back in 0..needs.len().min(LOOKS) {
         let at = needs.len() - 1 - back;
-        if needs[at].of == Some(block) {
+        if was_of(needs[at].was, block, hard) {
             return Some(at);
         }
     }
@@ -81,25 +107,32 @@ fn newest_of(needs: &[Need], block: u32) -> Option<usize>
 fn has_hard(heads: &Heads, needs: &[Need], block: u32) -> bool
     ensures { IsTrue result → (n : ℕ) × Contains (map (λ (q : Need). q.number) needs.now) n × IsHardNumber (patches_of heads.now.list.items) block n }
 {
-    let Some(at) = newest_of(needs, block) else {
+    let Some(at) = newest_of(needs, block, true) else {
         return false;
     };
     is_hard_number(heads, block, needs[at].number)
 }
 
-// The block of the patch with the number, if it is a hard change in memory.
-fn hard_block_of(heads: &Heads, number: u32) -> Option<u32> {
-    let head = &heads.list[heads.index_of(number)?];
+// What the patch is.
+fn what(head: &Head) -> Was {
     match head.kind {
         Kind::Change(_, block, _) => {
             let block = u32::from(block);
             if is_hard_in(head, block) {
-                Some(block)
+                Was::Hard(block)
             } else {
-                None
+                Was::Other(block)
             }
         }
-        Kind::Empty | Kind::OpenGate | Kind::SealedGate => None,
+        Kind::Empty | Kind::OpenGate | Kind::SealedGate => Was::NoChange,
+    }
+}
+
+// What the patch with the number is.
+fn what_at(heads: &Heads, number: u32) -> Was {
+    match heads.index_of(number) {
+        Some(index) => what(&heads.list[index]),
+        None => Was::NoChange,
     }
 }
 
@@ -140,6 +173,91 @@ fn is_spared(heads: &Heads, needs: &[Need], block: u32, number: u32) -> bool
     stays_on(heads, block, number) || is_stood_for(heads, needs, block, number)
 }
 
+// Whether what lies below the patch is more than what a walk comes to that crosses its block: it is no hard change in memory,
+// and no change that waits for changes of its block alone.
+fn leads_on(head: &Head) -> bool {
+    match head.kind {
+        Kind::Change(_, block, _) => {
+            let block = u32::from(block);
+            !is_hard_in(head, block) && !is_own(head.pending, block)
+        }
+        Kind::Empty | Kind::OpenGate | Kind::SealedGate => true,
+    }
+}
+
+// Those of the row that are not there join, as long as there is a place.
+fn gather(below: &mut Vec<u32>, row: &[u32])
+    ensures { (n : ℕ) → Contains below.new.items n → Contains below.old.items n ⊎ Contains row.now n }
+{
+    for number in row {
+        if below.len() < below.capacity() && !below.contains(number) {
+            below.push_reserved(*number);
+        }
+    }
+}
+
+// Some of what the patch with the number directly depends on joins, if it leads on.
+fn gather_under(heads: &Heads, below: &mut Vec<u32>, number: u32)
+    ensures { (n : ℕ) → Contains below.new.items n → Contains below.old.items n ⊎ DirectlyOn (patches_of heads.now.list.items) number n }
+{
+    let Some(index) = heads.index_of(number) else {
+        return;
+    };
+    let head = &heads.list[index];
+    if leads_on(head) {
+        gather(below, newest_few(head.dependencies.as_slice(), BELOW));
+    }
+}
+
+// Gathers some of what is at or below the row, that which is nearest first.
+fn gather_below(heads: &Heads, below: &mut Vec<u32>, row: &[u32])
+    ensures { (n : ℕ) → Contains below.new.items n → IsAtOrUnder (patches_of heads.now.list.items) row.now n }
+{
+    below.clear();
+    gather(below, newest_few(row, BELOW));
+    for at in 0..BELOW {
+        if below.len() <= at {
+            return;
+        }
+        let number = below[at];
+        gather_under(heads, below, number);
+    }
+}
+
+// The patch with the number joins what the block needs, if it is a change of another block that is not on disk, none of that
+// block is there, and there is a place.
+fn put_first(list: &mut Vec<Need>, heads: &Heads, block: u32, number: u32)
+    ensures kept { (n : ℕ) → Contains (map (λ (q : Need). q.number) list.old.items) n → Contains (map (λ (q : Need). q.number) list.new.items) n }
+    ensures only { (n : ℕ) → Contains (map (λ (q : Need). q.number) list.new.items) n → Contains (map (λ (q : Need). q.number) list.old.items) n ⊎ (n ≡ number) }
+    ensures fits { vec_len list.old ≤ vec_capacity list.old → vec_len list.new ≤ vec_capacity list.new }
+{
+    let Some(index) = heads.index_of(number) else {
+        return;
+    };
+    let head = &heads.list[index];
+    let Kind::Change(_, of, _) = head.kind else {
+        return;
+    };
+    let of = u32::from(of);
+    if of == block || !is_live(head.place) {
+        return;
+    }
+    if newest_of(list, of, false).is_none() && list.len() < list.capacity() {
+        list.push_reserved(Need { number, was: what(head) });
+    }
+}
+
+// Each of those joins so.
+fn put_firsts(list: &mut Vec<Need>, heads: &Heads, block: u32, numbers: &[u32])
+    ensures kept { (n : ℕ) → Contains (map (λ (q : Need). q.number) list.old.items) n → Contains (map (λ (q : Need). q.number) list.new.items) n }
+    ensures only { (n : ℕ) → Contains (map (λ (q : Need). q.number) list.new.items) n → Contains (map (λ (q : Need). q.number) list.old.items) n ⊎ Contains numbers.now n }
+    ensures fits { vec_len list.old ≤ vec_capacity list.old → vec_len list.new ≤ vec_capacity list.new }
+{
+    for number in numbers {
+        put_first(list, heads, block, *number);
+    }
+}
+
 impl Needs {
     /// Of no head no block needs anything.
     pub fn new(alloc: Global, blocks: u32) -> Result<Needs, AllocError>
@@ -155,6 +273,7 @@ impl Needs {
             block: 0,
             room: 0,
             ways: Vec::new(alloc),
+            below: Vec::with_capacity(alloc, BELOW)?,
         })
     }
 
@@ -166,13 +285,13 @@ impl Needs {
         self.lists[block as usize].as_slice()
     }
 
-    /// What the block was last found to need as a hard change of the other block, among its newest 1,024 needs.
+    /// What the block was last found to need as a change of the other block, among its newest 1,024 needs.
     pub fn newest_on(&self, block: u32, on: u32) -> Option<u32>
         requires { block < length self.now.lists }
         ensures { IfSome result (Contains (needs_of self.now.lists block)) }
     {
         let needs = self.of(block);
-        let at = newest_of(needs, on)?;
+        let at = newest_of(needs, on, false)?;
         Some(needs[at].number)
     }
 
@@ -199,7 +318,8 @@ impl Needs {
         ensures ways { (w : Way) → Contains self.new.ways w → Contains self.old.ways w }
         ensures room { OnOk result ((self.new.block ≡ block) × (self.new.room ≡ more)) }
     {
-        self.lists[block as usize].reserve(more)?;
+        // A place for what is below, if there is one, is asked for besides.
+        self.lists[block as usize].reserve(more.saturating_add(BELOW))?;
         self.block = block;
         self.room = more;
         self.reserve_way(heads);
@@ -219,10 +339,26 @@ impl Needs {
     {
         let list = &mut self.lists[self.block as usize];
         if !is_spared(heads, list, self.block, number) {
-            let of = hard_block_of(heads, number);
-            list.push_reserved(Need { number, of });
+            let was = what_at(heads, number);
+            list.push_reserved(Need { number, was });
             self.room -= 1;
         }
+    }
+
+    // The block needs some of what is at or below the row besides, of each other block that it does not need yet one.
+    fn put_below(&mut self, heads: &Heads, row: &[u32])
+        requires block { self.old.block < length self.old.lists }
+        ensures besides { IsBesides self.old.block (IsAtOrUnder (patches_of heads.now.list.items) row.now) self.old.lists self.new.lists }
+        ensures ways { self.new.ways ≡ self.old.ways }
+    {
+        self.room = 0;
+        gather_below(heads, &mut self.below, row);
+        put_firsts(
+            &mut self.lists[self.block as usize],
+            heads,
+            self.block,
+            self.below.as_slice(),
+        );
     }
 
     /// A new change of the block for which there is room directly depends on the row.
@@ -235,8 +371,13 @@ impl Needs {
         ensures ways { self.new.ways ≡ self.old.ways }
     {
         if grade == Grade::Hard {
+            let room = self.room;
             for number in row {
                 self.put_one(heads, *number);
+            }
+            // Where each of the row is spared, a walk does not go on below it.
+            if self.room < room {
+                self.put_below(heads, row);
             }
         }
     }

@@ -10,8 +10,8 @@ use Rattle.fst_heads.specs.{Reaching.{ShowsBlocks}, Tests.passes, declared.head.
 use Rattle.fst_heads.proofs.{Listing.rising_patches}
 use Rattle.fst_walks.specs.{BothEnds.{AreApart, ComesTo, EndApart, IsFirstAway, IsHigh, IsLowChange, LeadTogether, StepsAway, StepsHigh, StepsLow, StepsTo}, Descending.{IsLedFrom, Visits}}
 use Rattle.fst_levels.specs.{Leveling.AreLeveled, Ancestors.AreUnder, Needing.AreNeeded, WayBack.{IsKeptUnder, IsUnderHard, LeadsBack, StepsBack, StepsUp}}
-use Rattle.fst_levels.proofs.{KeptOver.kept_is_under, NoWayBack.{Leads, leads_on, goes_up, back_leads, none_leads, off_live}, ComesBack.{live_number, off_not_on}, Holding.live_up, NearRow.rests_may, Trails.none_in}
-use Rattle.fst_walks.proofs.{BothEnds.{away_depends, led_leads, leads_led, backs_up, ups_back}, Needed.{StepsDown, StepsWhole, steps_whole, whole_met}}
+use Rattle.fst_levels.proofs.{KeptOver.kept_is_under, NoWayBack.{Leads, leads_on, goes_up, back_leads, none_leads, off_live}, ComesBack.{live_number, off_not_on}, Holding.live_up, Leveled.level_path, NearRow.rests_may, Trails.none_in}
+use Rattle.fst_walks.proofs.{BothEnds.{away_depends, led_leads, leads_led, backs_up, ups_back}, Needed.{StepsDown, StepsWhole, live_whole, steps_whole, whole_met}}
 use Rattle.fst_heads.specs.declared.test.Test.TheVariants as test
 
 -- whether the patch passes is known
@@ -59,14 +59,9 @@ module _ (heads : List Head) (rising : AreRising heads) (disk : IsOnDiskWithAll 
     path : Leads (StepsAway patches over level least b) m found
     above : DependsOn patches found n
 
-  -- what a patch depends on is no higher
-  falls : (p q : ℕ) → DependsOn patches p q → level q ≤ level p
-  falls p q (one d) = leveled.direct p q d
-  falls p q (join {q = k} c d) = let e = falls p k c in let f = falls k q d in omega (arith, e, f)
-
   -- so what depends on something high is high
   high_up : (p q : ℕ) → DependsOn patches p q → IsHigh patches level least q → IsHigh patches level least p
-  high_up p q d high = (live_up patches disk p q d high.0, let f = falls p q d in let k = high.1 in omega (arith, f, k))
+  high_up p q d high = (live_up patches disk p q d high.0, let f = level_path patches level floor leveled p q d in let k = high.1 in omega (arith, f, k))
 
   goes_down : (m n : ℕ) → DependsOn patches m n → IsHigh patches level least n → ReturnsFrom n → HasFirst m n ⊎ Closure (StepsAway patches over level least b) m n
   goes_down m n (one d) high back = elim (passes_or patches (rising_patches heads rising) (test.LiveOff b) d.patch m d.head d.numbered) [
@@ -171,8 +166,8 @@ module _ (patches : List Patch) (level floor : ℕ → ℕ) (leveled : AreLevele
     | inr k ↦
         let n = needed.named k.block q k.need.0 in
         let first = leveled.change k.block p k.change in
-        let hard = leveled.hard k.block n.0 n.1 in
-        let last = leveled.direct n.0 q n.2 in
+        let hard = leveled.hard k.block n.0 n.1.hard in
+        let last = level_path patches level floor leveled n.0 q (n.1.depends k.need.1.patch k.need.1.head k.need.1.numbered) in
         omega (arith, first, hard, last)
   ]
 
@@ -194,12 +189,14 @@ module _ (patches : List Patch) (level floor : ℕ → ℕ) (leveled : AreLevele
   leads_down p q (inr path) = inr (high_down p q path)
 
 -- where b alone is shown as crossed, steps that cross no change of b to what a block needs are steps across to hard changes
-module _ (patches : List Patch) (needs : ℕ → List ℕ) (needed : AreNeeded patches needs) (b : ℕ) (crossed : List Bool) (shown : ShowsBlocks crossed (λ c. c ≡ b)) where
+module _ (patches : List Patch) (disk : IsOnDiskWithAll patches) (needs : ℕ → List ℕ) (needed : AreNeeded patches needs) (b : ℕ) (crossed : List Bool) (shown : ShowsBlocks crossed (λ c. c ≡ b)) where
   to_whole : (p q : ℕ) → StepsTo patches needs b p q → Closure (StepsWhole patches crossed) p q
   to_whole p q (inl d) = one (inl d)
   to_whole p q (inr k) =
       let n = needed.named k.block q k.need.0 in
-      join (one (inr (record { block = k.block; change = k.change; fresh = λ r. k.other (shown.only k.block r); hard = n.1 }))) (one (inl (n.2, k.need.1)))
+      let live = k.need.1 in
+      join (one (inr (record { block = k.block; change = k.change; fresh = λ r. k.other (shown.only k.block r); hard = n.1.hard })))
+      (live_whole patches disk crossed n.0 q (n.1.depends live.patch live.head live.numbered) live)
 
   all_whole : (p q : ℕ) → Closure (StepsTo patches needs b) p q → Closure (StepsWhole patches crossed) p q
   all_whole p q (one s) = to_whole p q s
@@ -272,7 +269,7 @@ module _ (heads : List Head) (rising : AreRising heads) (disk : IsOnDiskWithAll 
 
   -- its steps lead where steps across to hard changes do
   pub wholly : (top n : ℕ) → Leads (StepsHigh now level least needs down) top n → Leads (StepsWhole now down) top n
-  wholly top n path = elim (leads_down now level floor leveled needs needed down least top n path) [ inl e ↦ inl e | inr steps ↦ inr (steps_whole now in_order flights needs needed b down shows_down top n steps) ]
+  wholly top n path = elim (leads_down now level floor leveled needs needed down least top n path) [ inl e ↦ inl e | inr steps ↦ inr (steps_whole now in_order disk flights needs needed b down shows_down top n steps) ]
 
   -- they lead to what a way leads up from
   pub under_up : (top n : ℕ) → Contains tops top → Leads (StepsWhole now down) top n → Leads (StepsUp now up) n top
@@ -301,7 +298,7 @@ module _ (heads : List Head) (rising : AreRising heads) (disk : IsOnDiskWithAll 
   comes_hard each none = none_leads now in_order disk b row (λ end l.
       let f = first_back heads rising disk hard level floor leveled over kept b least low up shows_up row end l in
       let back = leads_downs now b up down shows_up shows_down in_order end f.0 (inr f.2) (live_number now in_order b b end l.change) in
-      let y = whole_met now in_order flights needs needed b down shows_down tops f.0 end (each f.0 f.1) back l.change in
+      let y = whole_met now in_order disk flights needs needed b down shows_down tops f.0 end (each f.0 f.1) back l.change in
       let over = leveled.change b y.0 y.2 in
       none y.0 (record { under = high_led now level floor leveled needs needed down least tops y.0 y.1 (omega (arith, low, over)); change = y.2 }))
 
@@ -352,7 +349,7 @@ module _ (heads : List Head) (rising : AreRising heads) (disk : IsOnDiskWithAll 
   pub traced_back : (n end : ℕ) → LeadTogether all level needs most least up down bottoms tops n → PassesAt (test.LiveOn b) all end → Leads (StepsTo all needs b) n end → LeadsBack all b row end
   traced_back n end met change path =
       let a = led_leads (StepsHigh all level least needs down) tops n met.under in
-      let below = leads_on (StepsWhole all down) a.0 n end (whole a.0 n a.2) (to_wholes all needs needed b down ends.shows_down n end path) in
+      let below = leads_on (StepsWhole all down) a.0 n end (whole a.0 n a.2) (to_wholes all disk needs needed b down ends.shows_down n end path) in
       back_from heads rising disk hard flights level floor leveled needs needed over kept b least floored row up down ends.shows_up ends.shows_down tops ends.first end a.0 end a.1 change below (inl refl)
 
   -- a change of b that the walk down leads to is one that the walk up starts from

@@ -1,7 +1,7 @@
 -- A walk down that crosses a block to what this needs meets a change of a block wherever one that crosses to all hard changes of it would.
 use Rattle.std.proofs.Common.{◌≡◌, ◌≢◌, ◌⊎◌, ℕ, Bool, List, Some, Contains, refl, sym, ap, subst, ◌∙◌, inl, inr}
 use Rattle.std.proofs.lemmas.Bool.{cases_eq}
-use Rattle.fst_types.specs.{Closure.{Closure, one, join}, Dependencies.{DirectlyOn, DependsOn, IsLiveNumber, Needs}, Facts.{FlightsStandAlone, IsInFlightOn}}
+use Rattle.fst_types.specs.{Closure.{Closure, one, join}, Dependencies.{DirectlyOn, DependsOn, IsLiveNumber, Needs}, Facts.{FlightsStandAlone, IsInFlightOn, IsOnDiskWithAll}}
 use Rattle.fst_types.specs.{Patches.{Patch, Kind, Change, Empty, OpenGate, SealedGate, IsOn, IsRising, block_of_kind, grade_of_kind}, declared.place.Place.Place}
 use Rattle.fst_types.specs.declared.grade.Grade.TheVariants as grade
 use Rattle.fst_types.proofs.Crash.{same_number}
@@ -9,7 +9,7 @@ use Rattle.fst_heads.specs.{Grading.IsHardNumber, Indices.PassesAt, Reaching.{Is
 use Rattle.fst_heads.proofs.{Graded.{off_to, on_to}}
 use Rattle.fst_walks.specs.{BothEnds.{CrossesDown, GoesBelow}, Descending.IsLedFrom}
 use Rattle.fst_levels.specs.Needing.{AreNeeded, IsHardAt, IsSpared, StaysOn}
-use Rattle.fst_levels.proofs.ComesBack.{live_number, live_on}
+use Rattle.fst_levels.proofs.{ComesBack.{live_number, live_on}, Holding.live_up}
 use Rattle.fst_types.specs.declared.place.Place.TheVariants as place
 use Rattle.fst_heads.specs.declared.test.Test.TheVariants as test
 use Rattle.fst_types.proofs.Numbers.{one_block}
@@ -24,6 +24,11 @@ pub record CrossesToHard (patches : List Patch) (crossed : List Bool) (p q : ℕ
 -- a step down: to a direct dependency that is not on disk, or across a block
 abbrev pub StepsWhole : List Patch → List Bool → ℕ → ℕ → Type 0
 StepsWhole patches crossed p q = (DirectlyOn patches p q × IsLiveNumber patches q) ⊎ CrossesToHard patches crossed p q
+
+-- so does each way down to what is not on disk
+pub live_whole : (patches : List Patch) → IsOnDiskWithAll patches → (crossed : List Bool) → (p q : ℕ) → DependsOn patches p q → IsLiveNumber patches q → Closure (StepsWhole patches crossed) p q
+live_whole patches disk crossed p q (one d) live = one (inl (d, live))
+live_whole patches disk crossed p q (join {q = k} c d) live = join (live_whole patches disk crossed p k c (live_up patches disk k q d live)) (live_whole patches disk crossed k q d live)
 
 -- a step down, however low it leads: to a direct dependency that is not on disk, or across a block to what this needs
 abbrev pub StepsDown : List Patch → (ℕ → List ℕ) → List Bool → ℕ → ℕ → Type 0
@@ -49,7 +54,7 @@ hard_or patches rising p n head numbered = elim (hard_kind_or p.kind p.place) [
       none c hard.change hard.memory hard.hard)
 ]
 
-module _ (patches : List Patch) (rising : IsRising patches) (flights : FlightsStandAlone patches) (needs : ℕ → List ℕ) (needed : AreNeeded patches needs)
+module _ (patches : List Patch) (rising : IsRising patches) (disk : IsOnDiskWithAll patches) (flights : FlightsStandAlone patches) (needs : ℕ → List ℕ) (needed : AreNeeded patches needs)
     (b : ℕ) (crossed : List Bool) (shown : ShowsBlocks crossed (λ c. c ≡ b)) where
   abbrev Down : ℕ → ℕ → Type 0
   Down = StepsDown patches needs crossed
@@ -62,8 +67,9 @@ module _ (patches : List Patch) (rising : IsRising patches) (flights : FlightsSt
   step_whole p q (inl d) = one (inl (d.1, d.2))
   step_whole p q (inr k) =
       let n = needed.named k.block q k.need.0 in
-      let over : CrossesToHard patches crossed p n.0 = record { block = k.block; change = k.change; fresh = k.fresh; hard = n.1 } in
-      join (one (inr over)) (one (inl (n.2, k.need.1)))
+      let live = k.need.1 in
+      let over : CrossesToHard patches crossed p n.0 = record { block = k.block; change = k.change; fresh = k.fresh; hard = n.1.hard } in
+      join (one (inr over)) (live_whole patches disk crossed n.0 q (n.1.depends live.patch live.head live.numbered) live)
 
   pub steps_whole : (p q : ℕ) → Closure Down p q → Closure Whole p q
   steps_whole p q (one s) = step_whole p q s

@@ -23,7 +23,7 @@ ghost use Rattle.fst_levels.specs.Walks.{numbers_met};
 use crate::block_walk::BlockWalk;
 use crate::first_away::{FEW, visit_first_away};
 use crate::graded::{Graded, hard_after, soft};
-use crate::way_down::{change_near, step_down};
+use crate::way_down::{any_across, change_below, step_down};
 use fst_heads::head::Head;
 use fst_heads::test::{Test, passes};
 use fst_levels::sight::Sight;
@@ -85,7 +85,8 @@ fn turn(
 }
 
 // Takes steps down, through what is no lower than `least`, until a change of the block was met, which it answers, or the
-// walk is at its end, where it answers that there is none. It gives up once it has looked at more patches than `most`.
+// walk is at its end, where it answers that there is none. Of each patch that was met it asks at once whether its block needs
+// one of the block, so that the way is found before all that lies about was visited. It gives up once it has looked at more patches than `most`.
 fn descend(
     sight: &Sight<'_>,
     down: &mut BlockWalk,
@@ -103,10 +104,16 @@ fn descend(
 {
     let mut left = most;
     let mut at = 0;
+    let mut asked = 0;
     while at < down.walk.len() {
-        let next = change_near(sight, &down.walk, &down.crossed, at, least, block);
-        if next.is_some() {
-            return Some(next);
+        let across = any_across(sight, &down.walk, &down.crossed, asked, least, block);
+        if across.is_some() {
+            return Some(across);
+        }
+        asked = down.walk.len();
+        let below = change_below(sight, &down.walk, at, least, block);
+        if below.is_some() {
+            return Some(below);
         }
         let (met, looked) = turn(sight, down, block, at, least);
         if met.is_some() {

@@ -183,9 +183,9 @@ fn change_across(
     }
 }
 
-// A change of the block `on` that the patch that was met there in turn directly depends on, if its row is long, among the newest
-// of that. So a way that ends below a gate over thousands is found without a visit to all of them.
-fn change_below(sight: &Sight<'_>, walk: &Walk, at: usize, least: u32, on: u32) -> Option<u32>
+/// A change of the block `on` that the patch that was met there in turn directly depends on, if its row is long, among the newest
+/// of that. So a way that ends below a gate over thousands is found without a visit to all of them.
+pub fn change_below(sight: &Sight<'_>, walk: &Walk, at: usize, least: u32, on: u32) -> Option<u32>
     requires sees { Sees sight.now }
     requires visited { Visited sight.now.heads.now.list.items walk.now }
     requires at { at < length walk.now.met }
@@ -208,27 +208,28 @@ fn change_below(sight: &Sight<'_>, walk: &Walk, at: usize, least: u32, on: u32) 
     None
 }
 
-/// A change of the block `on` to which a step leads down from the patch that was met there in turn, as far as a few looks tell:
-/// below it, or across its block.
-pub fn change_near(
+/// A change of the block `on` to which a step leads across its block from a patch that was met at that turn or later, as far as
+/// that is told by what blocks were last found to need of `on`.
+pub fn any_across(
     sight: &Sight<'_>,
     walk: &Walk,
     crossed: &[bool],
-    at: usize,
+    from: usize,
     least: u32,
     on: u32,
 ) -> Option<u32>
     requires sees { Sees sight.now }
     requires crossed { length crossed.now ≡ length sight.now.lists.now }
     requires visited { Visited sight.now.heads.now.list.items walk.now }
-    requires at { at < length walk.now.met }
-    ensures { IfSome result (λ n. PassesAt (test.LiveOn on) (patches_of sight.now.heads.now.list.items) n × StepsHigh (patches_of sight.now.heads.now.list.items) (level_of sight.now.levels.now.ranks) least (needs_of sight.now.needs.now.lists) crossed.now (slice_index_or (numbers_met sight.now.heads.now.list.items walk.now) at 0) n) }
+    ensures { IfSome result (λ n. PassesAt (test.LiveOn on) (patches_of sight.now.heads.now.list.items) n × ((at : ℕ) × (at < length walk.now.met) × StepsHigh (patches_of sight.now.heads.now.list.items) (level_of sight.now.levels.now.ranks) least (needs_of sight.now.needs.now.lists) crossed.now (slice_index_or (numbers_met sight.now.heads.now.list.items walk.now) at 0) n)) }
 {
-    let below = change_below(sight, walk, at, least, on);
-    if below.is_some() {
-        return below;
+    for at in from..walk.len() {
+        let across = change_across(sight, walk, crossed, at, least, on);
+        if across.is_some() {
+            return across;
+        }
     }
-    change_across(sight, walk, crossed, at, least, on)
+    None
 }
 
 /// Visits what a step leads down to from the patch that was met there in turn, as far as it is no lower than `least`. Answers

@@ -1,4 +1,4 @@
-use Rattle.std.proofs.Common.{◌<◌, ◌+◌, ◌∙◌, get_or, length, subst, sym, arith}
+use Rattle.std.proofs.Common.{◌<◌, ◌+◌, ◌∙◌, get_or, length, subst, inl, sym, arith}
 use Rattle.std.proofs.lemmas.Grind.{common_steps}
 use Rattle.std.proofs.lemmas.Option.{IfSome_then}
 use Rattle.fst_heads.specs.Heads.{patches_of}
@@ -19,30 +19,45 @@ descends c =
     let inside : c.loop-at.at < length (numbers_met heads down.walk) = omega (arith, c.loop-at-test.true, c.len.ensures.long, long_met heads down.walk) in
     high_step (patches_of heads) (level_of c.args.sight.now.levels.now.ranks) c.args.least (needs_of c.args.sight.now.needs.now.lists) start.crossed.items (numbers_met heads start.walk) c.loop-at.at down.crossed.items c.turn-met.new.down.crossed.items (numbers_met heads down.walk) (numbers_met heads c.turn-met.new.down.walk) inside c.loop-at.invariant.descends c.turn-met.ensures.visits c.turn-met.ensures.crossed
 
-pub returns-then-is_some-2-clause-met : goal.returns-then-is_some-2-clause-met
-returns-then-is_some-2-clause-met c =
-    let walked = descends (goal.at.returns-then-is_some-2-clause-met c).After-turn-met in
+pub returns-then-is_some-3-clause-met : goal.returns-then-is_some-3-clause-met
+returns-then-is_some-3-clause-met c =
+    let walked = descends (goal.at.returns-then-is_some-3-clause-met c).After-turn-met in
     IfSome_then c.turn-met.result.0 c.turn-met.ensures.met (λ n met. record { under = walked.climbing.only n met.0; change = met.1 })
 
--- what is across is led to
+-- what is across from what was met is led to
 pub returns-then-is_some-clause-met : goal.returns-then-is_some-clause-met
 returns-then-is_some-clause-met c =
     let sight = c.args.sight.now in
     let heads = sight.heads.now.list.items in
     let start = c.args.down.now in
     let down = c.loop-at.down in
+    IfSome_then c.any_across-across.result c.any_across-across.ensures (λ n told.
+    let at = told.1.0 in
+    let inside : at < length (numbers_met heads down.walk) = omega (arith, told.1.1, long_met heads down.walk) in
+    record {
+      under = high_led (patches_of heads) (level_of sight.levels.now.ranks) c.args.least (needs_of sight.needs.now.lists) start.crossed.items (numbers_met heads start.walk) c.loop-at.at at down.crossed.items (numbers_met heads down.walk) inside c.loop-at.invariant.descends n
+          (subst (λ shown. StepsHigh (patches_of heads) (level_of sight.levels.now.ranks) c.args.least (needs_of sight.needs.now.lists) shown (get_or (numbers_met heads down.walk) at 0) n) c.deref.ensures.value told.1.2);
+      change = told.0;
+    })
+
+-- and what is below it
+pub returns-then-is_some-2-clause-met : goal.returns-then-is_some-2-clause-met
+returns-then-is_some-2-clause-met c =
+    let sight = c.args.sight.now in
+    let heads = sight.heads.now.list.items in
+    let start = c.args.down.now in
+    let down = c.loop-at.down in
     let inside : c.loop-at.at < length (numbers_met heads down.walk) = omega (arith, c.loop-at-test.true, c.len.ensures.long, long_met heads down.walk) in
-    IfSome_then c.change_near-next.result c.change_near-next.ensures (λ n across. record {
-      under = high_led (patches_of heads) (level_of sight.levels.now.ranks) c.args.least (needs_of sight.needs.now.lists) start.crossed.items (numbers_met heads start.walk) c.loop-at.at c.loop-at.at down.crossed.items (numbers_met heads down.walk) inside c.loop-at.invariant.descends n
-          (subst (λ shown. StepsHigh (patches_of heads) (level_of sight.levels.now.ranks) c.args.least (needs_of sight.needs.now.lists) shown (get_or (numbers_met heads down.walk) c.loop-at.at 0) n) c.deref.ensures.value across.1);
-      change = across.0;
+    IfSome_then c.change_below-below.result c.change_below-below.ensures (λ n told. record {
+      under = high_led (patches_of heads) (level_of sight.levels.now.ranks) c.args.least (needs_of sight.needs.now.lists) start.crossed.items (numbers_met heads start.walk) c.loop-at.at c.loop-at.at down.crossed.items (numbers_met heads down.walk) inside c.loop-at.invariant.descends n (inl told.1);
+      change = told.0;
     })
 
 pub loop-at-preserved : goal.loop-at-preserved
 loop-at-preserved c = record {
   down = c.turn-met.ensures.down;
   visited = c.turn-met.ensures.visited;
-  away = none_told c.turn-met.result.0 c.turn-met.ensures.away (sym c.is_some-in-loop-at.ensures ∙ c.if-is_some-2.false);
+  away = none_told c.turn-met.result.0 c.turn-met.ensures.away (sym c.is_some-in-loop-at-2.ensures ∙ c.if-is_some-3.false);
   descends = descends (goal.at.loop-at-preserved c).After-turn-met;
   few = omega (arith, c.loop-at-test.true, c.len.ensures.few, c.loop-at.invariant.down.long);
 }

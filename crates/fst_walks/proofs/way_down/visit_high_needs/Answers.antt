@@ -1,8 +1,10 @@
-use Rattle.std.proofs.Common.{◌<◌, None, map, length, take, get_or, Contains, sym, subst, arith}
+use Rattle.std.proofs.Common.{◌<◌, map, length, take, get_or, Contains, sym, subst, arith}
 use Rattle.std.proofs.lemmas.List.{get_or-map, length-map, take_all, take_more}
 use Rattle.fst_heads.specs.Heads.{patches_of}
 use Rattle.fst_walks.specs.{BothEnds.{IsHigh, IsHighNeed}, Descending.Visits}
-use Rattle.fst_levels.specs.{declared.needs.Need.Need, Leveling.level_of, Needing.needs_of, Walks.numbers_met}
+use Rattle.fst_levels.specs.{declared.needs.Need.Need, Leveling.{floor_of, level_of}, Needing.needs_of, Walks.numbers_met}
+use Rattle.fst_levels.specs.declared.needs.Was.TheVariants.{Hard}
+use Rattle.fst_levels.proofs.Leveled.{level_path}
 use Rattle.fst_walks.proofs.Visiting.{visits_next, visits_none, visits_same}
 use Rattle.fst_walks.proofs.way_down.visit_high_needs.Goals as goal
 
@@ -14,8 +16,8 @@ returns-then-floor-least-clause-visits c =
     visits_none (IsHighNeed (patches_of heads) (level_of sight.levels.now.ranks) c.args.least (needs_of sight.needs.now.lists) c.args.block) (numbers_met heads c.args.walk.now) (λ q k.
     let leveled = c.requires.sees.leveled.leveled in
     let n = c.requires.sees.needing.needed.named c.args.block q k.0.0 in
-    let hard = leveled.hard c.args.block n.0 n.1 in
-    let under = leveled.direct n.0 q n.2 in
+    let hard = leveled.hard c.args.block n.0 n.1.hard in
+    let under = level_path (patches_of heads) (level_of sight.levels.now.ranks) (floor_of sight.levels.now.floors) leveled n.0 q (n.1.depends k.0.1.patch k.0.1.head k.0.1.numbered) in
     absurd (omega (arith, hard, under, k.1, c.floor.ensures, c.if-floor-least.true)))
 
 pub of-needs-requires : goal.of-needs-requires
@@ -28,7 +30,7 @@ loop-need-preserved c =
     let needs = c.of-needs.result.now in
     let row = map (λ (q : Need). q.number) needs in
     let i = c.loop-need.need-index in
-    let none : Need = record { number = 0; of = None } in
+    let none : Need = record { number = 0; was = Hard 0 } in
     let inside : i < length row = omega (arith, c.loop-need-test.true, length-map needs (λ (q : Need). q.number)) in
     let same = get_or-map (λ (q : Need). q.number) needs i none 0 c.loop-need-test.true in
     record {

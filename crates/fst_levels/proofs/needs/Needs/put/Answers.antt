@@ -1,9 +1,18 @@
-use Rattle.std.proofs.{Common.{◌∙◌, ◌∷◌, [], take, get_or, arith, sym, subst}, lemmas.{Grind.common_steps, List.take_more}}
+use Rattle.std.proofs.{Common.{◌∙◌, ◌∷◌, [], take, get_or, arith, sym, subst}, lemmas.{Grind.common_steps, List.{take_all, take_more}}}
+use denote.Enum.Bare.{sameb}
+use Rattle.fst_types.specs.contracts.grade.Grade.{the_type}
+use Rattle.fst_types.specs.declared.grade.Grade.{Grade}
+use Rattle.std.proofs.Common.{◌≡◌, true, refl}
+use Rattle.std.proofs.lemmas.Bool.{false≢true}
 use Rattle.fst_heads.specs.Heads.{patches_of}
 use Rattle.fst_types.specs.declared.grade.Grade.TheVariants as grade
-use Rattle.fst_levels.specs.Needing.{IsPut}
-use Rattle.fst_levels.proofs.PutMore.{put_more}
+use Rattle.fst_levels.specs.Needing.{IsAtOrUnder, IsBesides, IsPut}
+use Rattle.fst_levels.proofs.PutMore.{put_besides, put_more}
 use Rattle.fst_levels.proofs.needs.Needs.put.Goals as goal
+
+is_hard : (g : Grade) → sameb the_type g grade.Hard ≡ true → g ≡ grade.Hard
+is_hard grade.Hard e = refl
+is_hard grade.Soft e = absurd (false≢true e)
 
 pub loop-number-preserved : goal.loop-number-preserved
 loop-number-preserved c =
@@ -23,8 +32,29 @@ loop-number-preserved c =
           (subst (λ k. IsPut patches k (get_or row at 0 ∷ []) grade.Hard mid new) inv.block c.put_one.ensures.put));
     }
 
-pub returns-after-loop-number : goal.returns-after-loop-number
-returns-after-loop-number c = grind (arith, common_steps)
+-- the row is put, and what is below it besides
+pub returns-then-self-room-clause-put : goal.returns-then-self-room-clause-put
+returns-then-self-room-clause-put c =
+    let patches = patches_of c.args.heads.now.list.items in
+    let row = c.args.row.now in
+    let b = c.args.self.now.block in
+    let was = c.args.self.now.lists in
+    let mid = c.loop-number.self.lists in
+    let new = c.put_below.new.self.lists in
+    let inv = c.loop-number.invariant in
+    let put = subst (λ ns. IsPut patches b ns grade.Hard was mid) (take_all c.loop-number.number-index row (omega (arith, c.loop-number-test.false))) inv.put in
+    subst (λ g. IsPut patches b row g was new) (sym (is_hard c.args.grade (sym c.if-eq.ensures))) (put_besides patches b row was mid new put (subst (λ k. IsBesides k (IsAtOrUnder patches row) mid new) inv.block c.put_below.ensures.besides))
+
+-- or the row alone
+pub returns-else-self-room-clause-put : goal.returns-else-self-room-clause-put
+returns-else-self-room-clause-put c =
+    let patches = patches_of c.args.heads.now.list.items in
+    let row = c.args.row.now in
+    let b = c.args.self.now.block in
+    let was = c.args.self.now.lists in
+    let mid = c.loop-number.self.lists in
+    let put = subst (λ ns. IsPut patches b ns grade.Hard was mid) (take_all c.loop-number.number-index row (omega (arith, c.loop-number-test.false))) c.loop-number.invariant.put in
+    subst (λ g. IsPut patches b row g was mid) (sym (is_hard c.args.grade (sym c.if-eq.ensures))) put
 
 pub returns-else-eq : goal.returns-else-eq
 returns-else-eq c = grind (arith, common_steps)
