@@ -9,7 +9,6 @@
 
 ghost use Rattle.std.specs.Prelude.{vec_capacity, vec_len, ◌≡◌, ◌≢◌, ◌≤◌, ◌<◌, ◌+◌, ◌⊎◌, ◌∷◌, [], ℕ, IsTrue, length, map, Contains, IfOk, IfSome, OnOk};
 ghost use Rattle.fst_types.specs.declared.grade.Grade.TheVariants as grade;
-ghost use Rattle.fst_types.specs.Dependencies.{DirectlyOn};
 ghost use Rattle.fst_types.specs.Facts.{IsOnDiskWithAll};
 ghost use Rattle.fst_heads.specs.Grading.{IsHardNumber};
 ghost use Rattle.fst_heads.specs.Heads.{patches_of};
@@ -18,7 +17,8 @@ ghost use Rattle.fst_levels.specs.declared.needs.Need.{Need};
 ghost use Rattle.fst_levels.specs.declared.needs.Way.{Way};
 ghost use Rattle.fst_levels.specs.Needing.{IsAtOrUnder, IsBesides, IsKnown, IsNeeding, IsNoted, IsPut, IsSpared, IsStoodFor, StaysOn, needs_of};
 
-use crate::shortcuts::{is_hard_in, is_hard_number, is_own, newest_few};
+use crate::below_row::{BELOW, gather_below};
+use crate::shortcuts::{is_hard_in, is_hard_number, is_own};
 use fst_heads::head::{Head, Kind};
 use fst_heads::heads::Heads;
 use fst_heads::row::{is_live_number, pending_at};
@@ -76,9 +76,6 @@ impl Model for Needs {
 
 // At how many of the needs one is looked for that stands for another: where none of these does, one more is kept.
 const LOOKS: usize = 1024;
-
-// How many patches at or below a row are looked at for what a block needs besides.
-const BELOW: usize = 16;
 
 // Whether it was a change of the block, and a hard one in memory if that is asked.
 fn was_of(was: Was, block: u32, hard: bool) -> bool {
@@ -173,57 +170,6 @@ fn is_spared(heads: &Heads, needs: &[Need], block: u32, number: u32) -> bool
     stays_on(heads, block, number) || is_stood_for(heads, needs, block, number)
 }
 
-// Whether what lies below the patch is more than what a walk comes to that crosses its block: it is no hard change in memory,
-// and no change that waits for changes of its block alone.
-fn leads_on(head: &Head) -> bool {
-    match head.kind {
-        Kind::Change(_, block, _) => {
-            let block = u32::from(block);
-            !is_hard_in(head, block) && !is_own(head.pending, block)
-        }
-        Kind::Empty | Kind::OpenGate | Kind::SealedGate => true,
-    }
-}
-
-// Those of the row that are not there join, as long as there is a place.
-fn gather(below: &mut Vec<u32>, row: &[u32])
-    ensures { (n : ℕ) → Contains below.new.items n → Contains below.old.items n ⊎ Contains row.now n }
-{
-    for number in row {
-        if below.len() < below.capacity() && !below.contains(number) {
-            below.push_reserved(*number);
-        }
-    }
-}
-
-// Some of what the patch with the number directly depends on joins, if it leads on.
-fn gather_under(heads: &Heads, below: &mut Vec<u32>, number: u32)
-    ensures { (n : ℕ) → Contains below.new.items n → Contains below.old.items n ⊎ DirectlyOn (patches_of heads.now.list.items) number n }
-{
-    let Some(index) = heads.index_of(number) else {
-        return;
-    };
-    let head = &heads.list[index];
-    if leads_on(head) {
-        gather(below, newest_few(head.dependencies.as_slice(), BELOW));
-    }
-}
-
-// Gathers some of what is at or below the row, that which is nearest first.
-fn gather_below(heads: &Heads, below: &mut Vec<u32>, row: &[u32])
-    ensures { (n : ℕ) → Contains below.new.items n → IsAtOrUnder (patches_of heads.now.list.items) row.now n }
-{
-    below.clear();
-    gather(below, newest_few(row, BELOW));
-    for at in 0..BELOW {
-        if below.len() <= at {
-            return;
-        }
-        let number = below[at];
-        gather_under(heads, below, number);
-    }
-}
-
 // The patch with the number joins what the block needs, if it is a change of another block that is not on disk, none of that
 // block is there, and there is a place.
 fn put_first(list: &mut Vec<Need>, heads: &Heads, block: u32, number: u32)
@@ -243,7 +189,10 @@ fn put_first(list: &mut Vec<Need>, heads: &Heads, block: u32, number: u32)
         return;
     }
     if newest_of(list, of, false).is_none() && list.len() < list.capacity() {
-        list.push_reserved(Need { number, was: what(head) });
+        list.push_reserved(Need {
+            number,
+            was: what(head),
+        });
     }
 }
 

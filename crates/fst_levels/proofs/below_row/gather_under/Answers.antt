@@ -1,7 +1,7 @@
 use Rattle.std.proofs.Common.{◌∙◌, Contains, ap, inl, inr, subst, sym}
 use Rattle.fst_heads.specs.Heads.{patch_of, patches_of}
 use Rattle.fst_heads.proofs.Indices.{patch_at}
-use Rattle.fst_levels.proofs.needs.gather_under.Goals as goal
+use Rattle.fst_levels.proofs.below_row.gather_under.Goals as goal
 
 pub returns-then-leads_on : goal.returns-then-leads_on
 returns-then-leads_on c n k =

@@ -1,7 +1,7 @@
 use Rattle.std.proofs.Common.{Contains, inl, inr, subst}
 use Rattle.std.proofs.lemmas.List.Elements.{Contains-get_or, Contains-push_cases}
-use Rattle.fst_levels.proofs.needs.gather.Goals.{then-len-capacity+then-not-contains, else-len-capacity}
-use Rattle.fst_levels.proofs.needs.gather.Goals as goal
+use Rattle.fst_levels.proofs.below_row.gather.Goals.{then-len-capacity+then-not-contains, else-len-capacity}
+use Rattle.fst_levels.proofs.below_row.gather.Goals as goal
 
 pub loop-number-preserved : goal.loop-number-preserved
 loop-number-preserved c n k = elim c.if-len-capacity.branch [

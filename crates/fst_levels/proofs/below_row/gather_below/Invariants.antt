@@ -1,7 +1,7 @@
 use Rattle.std.proofs.Common.{ℕ, Contains}
 use Rattle.fst_heads.specs.Heads.{patches_of}
 use Rattle.fst_levels.specs.Needing.{IsAtOrUnder}
-use Rattle.fst_levels.proofs.needs.gather_below.Given as goal
+use Rattle.fst_levels.proofs.below_row.gather_below.Given as goal
 
 -- all that was gathered is at or under the row
 abbrev pub invariant-loop-at : goal.invariant-loop-at

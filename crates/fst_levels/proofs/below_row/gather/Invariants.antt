@@ -1,5 +1,5 @@
 use Rattle.std.proofs.Common.{◌⊎◌, ℕ, Contains}
-use Rattle.fst_levels.proofs.needs.gather.Given as goal
+use Rattle.fst_levels.proofs.below_row.gather.Given as goal
 
 -- nothing else joined
 abbrev pub invariant-loop-number : goal.invariant-loop-number

@@ -2,7 +2,7 @@ use Rattle.std.proofs.Common.{Contains, arith, inl, inr, subst, sym}
 use Rattle.std.proofs.lemmas.List.Elements.{Contains-get_or}
 use Rattle.fst_types.specs.Closure.{one, join}
 use Rattle.fst_levels.proofs.Trails.{none_in}
-use Rattle.fst_levels.proofs.needs.gather_below.Goals as goal
+use Rattle.fst_levels.proofs.below_row.gather_below.Goals as goal
 
 pub loop-at-init : goal.loop-at-init
 loop-at-init c n k = elim (c.gather.ensures n k) [
