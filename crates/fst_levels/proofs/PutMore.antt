@@ -1,5 +1,5 @@
 -- What a block needs grows by one number and by a row.
-use Rattle.std.proofs.Common.{◌≡◌, ◌≢◌, ◌++◌, ◌∷◌, ◌∙◌, [], ℕ, List, map, length, Contains, refl, sym, subst, inl, inr}
+use Rattle.std.proofs.Common.{◌≡◌, ◌≢◌, ◌⊎◌, ◌++◌, ◌∷◌, ◌∙◌, [], ℕ, List, map, length, Contains, refl, sym, subst, inl, inr}
 use Rattle.std.proofs.lemmas.List.Elements.{Contains-push_cases, Contains-push, Contains-append_left}
 use Rattle.fst_types.specs.{Patches.Patch}
 use Rattle.fst_types.specs.declared.grade.Grade.TheVariants as grade
@@ -22,14 +22,14 @@ under_longer row longer n more (inl c) = inl (more n c)
 under_longer row longer n more (inr t) = inr (t.0, more t.0 t.1, t.2)
 
 module _ (patches : List Patch) (b : ℕ) where
-  -- one number that is spared
-  pub put_spared : (n : ℕ) (lists : List (List ℕ)) → IsSpared patches b (needs_of lists b) n → IsPut patches b (n ∷ []) grade.Hard lists lists
-  put_spared n lists spared = record {
+  -- one number that is there, or spared
+  pub put_told : (n : ℕ) (lists : List (List ℕ)) → Contains (needs_of lists b) n ⊎ IsSpared patches b (needs_of lists b) n → IsPut patches b (n ∷ []) grade.Hard lists lists
+  put_told n lists told = record {
     long = refl;
     others = λ c other. refl;
     kept = λ m k. k;
     only = λ m k. inl k;
-    told = λ hard q k. inr (subst (IsSpared patches b (needs_of lists b)) (only_in n q k) spared);
+    told = λ hard q k. subst (λ m. Contains (needs_of lists b) m ⊎ IsSpared patches b (needs_of lists b) m) (only_in n q k) told;
   }
 
   -- one number that joins the list

@@ -11,7 +11,7 @@ use crate::shortcuts::{is_hard_in, is_own, newest_few};
 use fst_heads::head::{Head, Kind};
 use fst_heads::heads::Heads;
 
-/// How many patches at or below a row are gathered, and of how many of a longer row they are taken.
+/// How many patches below a row are gathered, and of how many of a longer row they are taken.
 pub const BELOW: usize = 16;
 
 // Whether what lies below the patch is more than what a walk comes to that crosses its block: it is no hard change in memory,
@@ -50,12 +50,14 @@ fn gather_under(heads: &Heads, below: &mut Vec<u32>, number: u32)
     }
 }
 
-/// Gathers some of what is at or below the row, that which is nearest first. What was gathered before does not matter.
+/// Gathers some of what is below the row, that which is nearest first. What was gathered before does not matter.
 pub fn gather_below(heads: &Heads, below: &mut Vec<u32>, row: &[u32])
     ensures { (n : ℕ) → Contains below.new.items n → IsAtOrUnder (patches_of heads.now.list.items) row.now n }
 {
     below.clear();
-    gather(below, newest_few(row, BELOW));
+    for number in newest_few(row, BELOW) {
+        gather_under(heads, below, *number);
+    }
     for at in 0..BELOW {
         if below.len() <= at {
             return;

@@ -27,20 +27,13 @@ use fst_types::Grade;
 use std::alloc::{AllocError, Global};
 use std::marker::Model;
 
-/// What a patch was when it was kept as a need: a hard change in memory of that block, another change of it, or no change.
-#[derive(Clone, Copy)]
-pub enum Was {
-    Hard(u32),
-    Other(u32),
-    NoChange,
-}
-
-/// A patch that a block needs, and what it was, so that one that stands for others, and one of a block that is looked for,
-/// are found without a look at heads.
+/// A patch that a block needs, and if it is a change the block that it is of, and whether it was a hard one in memory, so that
+/// one that stands for others, and one of a block that is looked for, are found without a look at heads.
 #[derive(Clone, Copy)]
 pub struct Need {
     pub number: u32,
-    pub was: Was,
+    pub of: Option<u16>,
+    pub hard: bool,
 }
 
 /// A way back, from the soft change with the number to the change of its block at its end.
@@ -77,22 +70,20 @@ impl Model for Needs {
 // At how many of the needs one is looked for that stands for another: where none of these does, one more is kept.
 const LOOKS: usize = 1024;
 
-// Whether it was a change of the block, and a hard one in memory if that is asked.
-fn was_of(was: Was, block: u32, hard: bool) -> bool {
-    match was {
-        Was::Hard(of) => of == block,
-        Was::Other(of) => !hard && of == block,
-        Was::NoChange => false,
-    }
-}
+// At how many of the newest needs one is looked for before it joins, so that it is seldom there twice.
+const NEWEST: usize = 64;
 
-// The place of the newest of the needs that was kept as a change of the block, a hard one if that is asked.
-fn newest_of(needs: &[Need], block: u32, hard: bool) -> Option<usize>
+// The place of the newest of the needs that was kept as a change of the block, a hard one if that is asked, among so many.
+fn newest_of(needs: &[Need], block: u32, hard: bool, most: usize) -> Option<usize>
     ensures { IfSome result (λ at. at < length needs.now) }
 {
-    for back in 0..needs.len().min(LOOKS) {
+    let Ok(of) = u16::try_from(block) else {
+        return None;
+    };
+    for back in 0..needs.len().min(most) {
         let at = needs.len() - 1 - back;
-        if was_of(needs[at].was, block, hard) {
+        let need = needs[at];
+        if need.of == Some(of) && (need.hard || !hard) {
             return Some(at);
         }
     }
@@ -104,33 +95,29 @@ fn newest_of(needs: &[Need], block: u32, hard: bool) -> Option<usize>
 fn has_hard(heads: &Heads, needs: &[Need], block: u32) -> bool
     ensures { IsTrue result → (n : ℕ) × Contains (map (λ (q : Need). q.number) needs.now) n × IsHardNumber (patches_of heads.now.list.items) block n }
 {
-    let Some(at) = newest_of(needs, block, true) else {
+    let Some(at) = newest_of(needs, block, true, LOOKS) else {
         return false;
     };
     is_hard_number(heads, block, needs[at].number)
 }
 
-// What the patch is.
-fn what(head: &Head) -> Was {
-    match head.kind {
-        Kind::Change(_, block, _) => {
-            let block = u32::from(block);
-            if is_hard_in(head, block) {
-                Was::Hard(block)
-            } else {
-                Was::Other(block)
-            }
+// The patch with the number as a need.
+fn need_of(heads: &Heads, number: u32) -> Need
+    ensures { result.number ≡ number }
+{
+    let mut need = Need {
+        number,
+        of: None,
+        hard: false,
+    };
+    if let Some(index) = heads.index_of(number) {
+        let head = &heads.list[index];
+        if let Kind::Change(_, block, _) = head.kind {
+            need.of = Some(block);
+            need.hard = is_hard_in(head, u32::from(block));
         }
-        Kind::Empty | Kind::OpenGate | Kind::SealedGate => Was::NoChange,
     }
-}
-
-// What the patch with the number is.
-fn what_at(heads: &Heads, number: u32) -> Was {
-    match heads.index_of(number) {
-        Some(index) => what(&heads.list[index]),
-        None => Was::NoChange,
-    }
+    need
 }
 
 // Whether the patch with the number is a hard change in memory for which one of the needs stands, or of that block itself.
@@ -170,6 +157,28 @@ fn is_spared(heads: &Heads, needs: &[Need], block: u32, number: u32) -> bool
     stays_on(heads, block, number) || is_stood_for(heads, needs, block, number)
 }
 
+// Whether the patch with the number is among the newest of the needs.
+fn is_kept(needs: &[Need], number: u32) -> bool
+    ensures { IsTrue result → Contains (map (λ (q : Need). q.number) needs.now) number }
+{
+    for back in 0..needs.len().min(NEWEST) {
+        let at = needs.len() - 1 - back;
+        if needs[at].number == number {
+            return true;
+        }
+    }
+    false
+}
+
+// Whether it need not join the needs of the block: it is there, or a walk need not go on to it besides.
+fn is_told(heads: &Heads, needs: &[Need], block: u32, number: u32) -> bool
+    requires disk { IsOnDiskWithAll (patches_of heads.now.list.items) }
+    requires settled { (blocks : ℕ) × AreSettled (nodes_of heads.now.list.items) blocks }
+    ensures { IsTrue result → Contains (map (λ (q : Need). q.number) needs.now) number ⊎ IsSpared (patches_of heads.now.list.items) block (map (λ (q : Need). q.number) needs.now) number }
+{
+    is_kept(needs, number) || is_spared(heads, needs, block, number)
+}
+
 // The patch with the number joins what the block needs, if it is a change of another block that is not on disk, none of that
 // block is there, and there is a place.
 fn put_first(list: &mut Vec<Need>, heads: &Heads, block: u32, number: u32)
@@ -188,11 +197,9 @@ fn put_first(list: &mut Vec<Need>, heads: &Heads, block: u32, number: u32)
     if of == block || !is_live(head.place) {
         return;
     }
-    if newest_of(list, of, false).is_none() && list.len() < list.capacity() {
-        list.push_reserved(Need {
-            number,
-            was: what(head),
-        });
+    if newest_of(list, of, false, NEWEST).is_none() && list.len() < list.capacity() {
+        let need = need_of(heads, number);
+        list.push_reserved(need);
     }
 }
 
@@ -240,7 +247,7 @@ impl Needs {
         ensures { IfSome result (Contains (needs_of self.now.lists block)) }
     {
         let needs = self.of(block);
-        let at = newest_of(needs, on, false)?;
+        let at = newest_of(needs, on, false, LOOKS)?;
         Some(needs[at].number)
     }
 
@@ -287,9 +294,9 @@ impl Needs {
         ensures ways { self.new.ways ≡ self.old.ways }
     {
         let list = &mut self.lists[self.block as usize];
-        if !is_spared(heads, list, self.block, number) {
-            let was = what_at(heads, number);
-            list.push_reserved(Need { number, was });
+        if !is_told(heads, list, self.block, number) {
+            let need = need_of(heads, number);
+            list.push_reserved(need);
             self.room -= 1;
         }
     }

@@ -1,9 +1,8 @@
-use Rattle.std.proofs.Common.{◌<◌, map, length, take, get_or, Contains, sym, subst, arith}
+use Rattle.std.proofs.Common.{◌<◌, None, false, map, length, take, get_or, Contains, sym, subst, arith}
 use Rattle.std.proofs.lemmas.List.{get_or-map, length-map, take_all, take_more}
 use Rattle.fst_heads.specs.Heads.{patches_of}
 use Rattle.fst_walks.specs.{BothEnds.{IsHigh, IsHighNeed}, Descending.Visits}
 use Rattle.fst_levels.specs.{declared.needs.Need.Need, Leveling.{floor_of, level_of}, Needing.needs_of, Walks.numbers_met}
-use Rattle.fst_levels.specs.declared.needs.Was.TheVariants.{Hard}
 use Rattle.fst_levels.proofs.Leveled.{level_path}
 use Rattle.fst_walks.proofs.Visiting.{visits_next, visits_none, visits_same}
 use Rattle.fst_walks.proofs.way_down.visit_high_needs.Goals as goal
@@ -30,7 +29,7 @@ loop-need-preserved c =
     let needs = c.of-needs.result.now in
     let row = map (λ (q : Need). q.number) needs in
     let i = c.loop-need.need-index in
-    let none : Need = record { number = 0; was = Hard 0 } in
+    let none : Need = record { number = 0; of = None; hard = false } in
     let inside : i < length row = omega (arith, c.loop-need-test.true, length-map needs (λ (q : Need). q.number)) in
     let same = get_or-map (λ (q : Need). q.number) needs i none 0 c.loop-need-test.true in
     record {
