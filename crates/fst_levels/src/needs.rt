@@ -19,7 +19,7 @@ ghost use Rattle.fst_levels.specs.Needing.{IsAtOrUnder, IsBesides, IsKnown, IsNe
 
 use crate::below_row::{BELOW, gather_below};
 use crate::shortcuts::{is_hard_in, is_hard_number, is_own};
-use fst_heads::head::{Head, Kind};
+use fst_heads::head::Kind;
 use fst_heads::heads::Heads;
 use fst_heads::row::{is_live_number, pending_at};
 use fst_heads::test::is_live;
