@@ -2,6 +2,7 @@
 use Rattle.std.proofs.Common.{◌≡◌, ◌≢◌, ◌⊎◌, ◌++◌, ◌∷◌, ◌∙◌, [], ℕ, List, map, length, Contains, refl, sym, subst, inl, inr}
 use Rattle.std.proofs.lemmas.List.Elements.{Contains-push_cases, Contains-push, Contains-append_left}
 use Rattle.fst_types.specs.{Patches.Patch}
+use Rattle.fst_types.specs.declared.grade.Grade.{Grade}
 use Rattle.fst_types.specs.declared.grade.Grade.TheVariants as grade
 use Rattle.std.specs.Global.{Vec}
 use Rattle.fst_levels.specs.{Needing.{IsAtOrUnder, IsBesides, IsPut, IsSpared, needs_of}, declared.needs.Need.Need}
@@ -62,11 +63,11 @@ module _ (patches : List Patch) (b : ℕ) where
   }
 
   -- a row, and besides what is at or under it
-  pub put_besides : (row : List ℕ) (old mid new : List (List ℕ)) → IsPut patches b row grade.Hard old mid → IsBesides b (IsAtOrUnder patches row) mid new → IsPut patches b row grade.Hard old new
-  put_besides row old mid new A B = record {
+  pub put_besides : (row : List ℕ) (g : Grade) → g ≡ grade.Hard → (old mid new : List (List ℕ)) → IsPut patches b row g old mid → IsBesides b (IsAtOrUnder patches row) mid new → IsPut patches b row g old new
+  put_besides row g is old mid new A B = record {
     long = B.long ∙ A.long;
     others = λ c other. B.others c other ∙ A.others c other;
     kept = λ m k. B.kept m (A.kept m k);
-    only = λ m k. elim (B.only m k) [ inl was ↦ A.only m was | inr under ↦ inr (refl, under) ];
-    told = λ hard q k. elim (A.told refl q k) [ inl c ↦ inl (B.kept q c) | inr s ↦ inr (spared_longer B.kept s) ];
+    only = λ m k. elim (B.only m k) [ inl was ↦ A.only m was | inr under ↦ inr (is, under) ];
+    told = λ hard q k. elim (A.told hard q k) [ inl c ↦ inl (B.kept q c) | inr s ↦ inr (spared_longer B.kept s) ];
   }

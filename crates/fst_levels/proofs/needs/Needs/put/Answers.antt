@@ -8,6 +8,7 @@ use Rattle.fst_heads.specs.Heads.{patches_of}
 use Rattle.fst_types.specs.declared.grade.Grade.TheVariants as grade
 use Rattle.fst_levels.specs.Needing.{IsAtOrUnder, IsBesides, IsPut}
 use Rattle.fst_levels.proofs.PutMore.{put_besides, put_more}
+use Rattle.fst_levels.proofs.needs.Needs.put.Goals.{After-loop-number}
 use Rattle.fst_levels.proofs.needs.Needs.put.Goals as goal
 
 is_hard : (g : Grade) → sameb the_type g grade.Hard ≡ true → g ≡ grade.Hard
@@ -32,22 +33,9 @@ loop-number-preserved c =
           (subst (λ k. IsPut patches k (get_or row at 0 ∷ []) grade.Hard mid new) inv.block c.put_one.ensures.put));
     }
 
--- the row is put, and what is below it besides
-pub returns-then-self-room-clause-put : goal.returns-then-self-room-clause-put
-returns-then-self-room-clause-put c =
-    let patches = patches_of c.args.heads.now.list.items in
-    let row = c.args.row.now in
-    let b = c.args.self.now.block in
-    let was = c.args.self.now.lists in
-    let mid = c.loop-number.self.lists in
-    let new = c.put_below.new.self.lists in
-    let inv = c.loop-number.invariant in
-    let put = subst (λ ns. IsPut patches b ns grade.Hard was mid) (take_all c.loop-number.number-index row (omega (arith, c.loop-number-test.false))) inv.put in
-    subst (λ g. IsPut patches b row g was new) (sym (is_hard c.args.grade (sym c.if-eq.ensures))) (put_besides patches b row was mid new put (subst (λ k. IsBesides k (IsAtOrUnder patches row) mid new) inv.block c.put_below.ensures.besides))
-
--- or the row alone
-pub returns-else-self-room-clause-put : goal.returns-else-self-room-clause-put
-returns-else-self-room-clause-put c =
+-- the row is put
+row_put : (c : After-loop-number) → IsPut (patches_of c.args.heads.now.list.items) c.args.self.now.block c.args.row.now c.args.grade c.args.self.now.lists c.loop-number.self.lists
+row_put c =
     let patches = patches_of c.args.heads.now.list.items in
     let row = c.args.row.now in
     let b = c.args.self.now.block in
@@ -55,6 +43,21 @@ returns-else-self-room-clause-put c =
     let mid = c.loop-number.self.lists in
     let put = subst (λ ns. IsPut patches b ns grade.Hard was mid) (take_all c.loop-number.number-index row (omega (arith, c.loop-number-test.false))) c.loop-number.invariant.put in
     subst (λ g. IsPut patches b row g was mid) (sym (is_hard c.args.grade (sym c.if-eq.ensures))) put
+
+-- and what is below it besides
+pub returns-then-self-room-clause-put : goal.returns-then-self-room-clause-put
+returns-then-self-room-clause-put c =
+    let patches = patches_of c.args.heads.now.list.items in
+    let row = c.args.row.now in
+    let mid = c.loop-number.self.lists in
+    let new = c.put_below.new.self.lists in
+    let hard = is_hard c.args.grade (sym c.if-eq.ensures) in
+    put_besides patches c.args.self.now.block row c.args.grade hard c.args.self.now.lists mid new (row_put (goal.at.returns-then-self-room-clause-put c).After-loop-number)
+    (subst (λ k. IsBesides k (IsAtOrUnder patches row) mid new) c.loop-number.invariant.block c.put_below.ensures.besides)
+
+-- or the row alone
+pub returns-else-self-room-clause-put : goal.returns-else-self-room-clause-put
+returns-else-self-room-clause-put c = row_put (goal.at.returns-else-self-room-clause-put c).After-loop-number
 
 pub returns-else-eq : goal.returns-else-eq
 returns-else-eq c = grind (arith, common_steps)
