@@ -167,6 +167,18 @@ def refused():
     return made
 
 
+def refused_in_the_middle():
+    """A write refused each time for a hard change, beside 10,000 before it that wait for a gate and 10,000 after it."""
+    made = Script(2)
+    made.held(10_000)
+    made.patch(0, 3000, [made.patch(1, 0)])
+    made.patch(0, 3001)
+    made.held(10_000)
+    for _ in range(20_000):
+        made.ask("write", block=0)
+    return made
+
+
 def picks():
     """`pick` while 4,000 blocks wait for a gate and one is written."""
     made = Script(4096)
@@ -337,7 +349,7 @@ def hot():
 
 
 SHAPES = [
-    forget_each, forget_few, forget_nothing, after_old_ones, places, write_beside, refused,
+    forget_each, forget_few, forget_nothing, after_old_ones, places, write_beside, refused, refused_in_the_middle,
     forget_one, choose_in_flight, picks, full, one_clean, groups_ahead, groups_of_one_block, groups_behind_a_chain,
     group_before_another, depend_below_many, cycles, cycle_in_a_crowd, cycle_over_a_chain, hot,
 ]

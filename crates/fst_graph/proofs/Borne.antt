@@ -4,7 +4,7 @@ use Rattle.std.proofs.lemmas.{Bool.cases_lt, List.length-map, List.Sums.count_by
 use Rattle.std.specs.List.Sorted.{IsStrictlyIncreasing}
 use Rattle.fst_types.specs.{Dependencies.DirectlyOn, Facts.SparseAreLawful, Gates.IsOpenNumber, Limits.max_heads, Patches.Patch, Tests.is_live}
 use Rattle.fst_heads.specs.{Heads.{patches_of}, Keeps.{Beside, IsInside}, Nodes.{Node, nodes_of, patches_in, pending_in, AreDistinct, AreSettled, node_of}}
-use Rattle.fst_heads.specs.{Pendings.{Fits, IsOf, max_block, sums_of}, Spreading.{is_waiting, lands}, Standings.AllStand, declared.{head.Head.Head, heads.Heads.Heads}, declared.standing.Standing.Standing}
+use Rattle.fst_heads.specs.{Pendings.{Fits, IsOf, max_block, sums_of}, Spreading.{is_waiting, lands}, Standings.{AllStand, arrived}, declared.{head.Head.Head, heads.Heads.Heads}, declared.standing.Standing.Standing}
 use Rattle.fst_heads.proofs.{AtNumber.patches_in_nodes, Beside.waiting_live, Few.gain_few, PendingIn.found, Stands.{stand_landed, stand_landed_outside}, Sums.sums_fit}
 use Rattle.fst_heads.specs.declared.pending.Pending.TheVariants as pending
 
@@ -38,12 +38,12 @@ ok_of (Err x) P p e = absurd (cc)
 
 -- nothing of a block is in flight any more, if it is one
 pub stand_land : (nodes : List Node) (blocks b : ℕ) (old new : List Standing) → IsInside (patches_in nodes) blocks → AllStand nodes blocks old
-    → ((d : Standing) → b < blocks → new ≡ set old b (record { ready = (get_or old b d).ready; held = (get_or old b d).held; flying = 0 }))
+    → ((d : Standing) → b < blocks → new ≡ set old b (arrived (get_or old b d)))
     → (blocks ≤ b → new ≡ old)
     → AllStand (map (lands b) nodes) blocks new
 stand_land nodes blocks b old new inside S within outside = elim (cases_lt b blocks) [
   | inl lt ↦
-      let d : Standing = record { ready = 0; held = 0; flying = 0 } in
+      let d : Standing = record { ready = 0; held = 0; flying = 0; held_from = 0 } in
       subst (AllStand (map (lands b) nodes) blocks) (sym (within d lt)) (stand_landed nodes blocks b old d lt S)
   | inr past ↦ subst (AllStand (map (lands b) nodes) blocks) (sym (outside past)) (stand_landed_outside nodes blocks b old inside past S)
 ]

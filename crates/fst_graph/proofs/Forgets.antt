@@ -49,7 +49,7 @@ module _ (row : List ℕ) (nodes : List Node) where
       (distinct_kept nodes marked kept T.distinct)
       (settled_marked blocks T.settled)
       (subst (λ ps. AreListed ps blocks lists) (sym same) T.listed)
-      (stand_map (flags row) nodes blocks standings (λ x b i lt. like_as b (flags row x) x (ap (λ p. p.kind) (flags_patch row x)) (ap (λ p. p.place) (flags_patch row x)) (flags_pending row x)) T.standing)
+      (stand_map (flags row) nodes blocks standings (λ x b i lt. like_as b (flags row x) x (ap (λ p. p.number) (flags_patch row x)) (ap (λ p. p.kind) (flags_patch row x)) (ap (λ p. p.place) (flags_patch row x)) (flags_pending row x)) T.standing)
       T.idle
       (omega (arith, T.room, length-map nodes (flags row)))
 

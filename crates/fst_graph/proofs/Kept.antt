@@ -2,7 +2,7 @@
 use Rattle.std.proofs.Common.{◌≡◌, ◌<◌, false, get_or-set_same, get_or-set_other, ◌+◌, ◌++◌, ◌∷◌, [], ℕ, Bool, List, length, map, get_or, set, refl, sym, subst, ◌∙◌, arith, ◌⊎◌, ◌≤◌, Contains, ap, inl, inr}
 use Rattle.fst_types.specs.{Cascade.IsCascadeOf, Closure.IsAcyclic, Dependencies.{DirectlyOn, DependsOn, IsLiveNumber}, Facts.SparseAreLawful, Gates.IsOpenNumber, Gating.{sealed, gains}, Lists.Lists, Making.fresh}
 use Rattle.fst_types.specs.{Order.depend_order, Patches.{Change, Patch, block_of_kind}, Refusals.NoneHolds, Writable.{IsWritable, IsWritableSet}, Writing.{landed, launched}, declared.grade.Grade.Grade}
-use Rattle.fst_heads.specs.{Covers.{AreCovered, Covering, IsPut}, Keeps.{Keeps}, Rows.IsSparseRow, Standings.{NoneBelow, may_be_written}, declared.standing.Standing.Standing}
+use Rattle.fst_heads.specs.{Covers.{AreCovered, Covering, IsPut}, Keeps.{Keeps}, Rows.IsSparseRow, Standings.{NoneBelow, may_be_written, sent}, declared.standing.Standing.Standing}
 use Rattle.fst_types.proofs.{Alike.{Alike, back_alike, length_alike, on_back}, Depending.{length_mapped, sparse_gained}}
 use Rattle.fst_types.proofs.{GateGains.{direct_cases}, Issuing.{alike_launched, sparse_launched}, Landing.{alike_landed, sparse_landed}, NewChange.no_cycle, Sealing.{alike_sealed, sparse_sealed}}
 use Rattle.fst_heads.proofs.Covering.{was_gained, covered_alike, covered_put}
@@ -77,14 +77,15 @@ none_below_set standings least k b new none low here c d lt =
     ap may_be_written (get_or-set_other standings b c new d (λ e. absurd (omega (arith, e, lt, here)))) ∙ none c d (omega (arith, lt, low))
 
 -- a block of which nothing is ready may not be written
-none_ready : (held flying : ℕ) → may_be_written (record { ready = 0; held = held; flying = flying }) ≡ false
-none_ready held flying = grind (arith, and-false)
+pub none_ready : (s : Standing) → may_be_written (sent s) ≡ false
+none_ready s = grind (arith, and-false)
 
-pub none_below_launched : (standings : List Standing) (least b held flying : ℕ) → NoneBelow standings least → NoneBelow (set standings b (record { ready = 0; held = held; flying = flying })) least
-none_below_launched standings least b held flying none c d lt = elim (cases_eq c b) [
+-- where a block stands otherwise that may not be written either
+pub none_below_again : (standings : List Standing) (least b : ℕ) (new : Standing) → NoneBelow standings least → (b < least → may_be_written new ≡ false) → NoneBelow (set standings b new) least
+none_below_again standings least b new none unmarked c d lt = elim (cases_eq c b) [
   | inl same ↦ elim (cases_lt b (length standings)) [
-    | inl inside ↦ ap may_be_written (ap (λ k. get_or (set standings b (record { ready = 0; held = held; flying = flying })) k d) same ∙ get_or-set_same standings b (record { ready = 0; held = held; flying = flying }) d inside) ∙ none_ready held flying
-    | inr past ↦ ap may_be_written (ap (λ xs. get_or xs c d) (set_past standings b (record { ready = 0; held = held; flying = flying }) past)) ∙ none c d lt
+    | inl inside ↦ ap may_be_written (ap (λ k. get_or (set standings b new) k d) same ∙ get_or-set_same standings b new d inside) ∙ unmarked (omega (arith, same, lt))
+    | inr past ↦ ap may_be_written (ap (λ xs. get_or xs c d) (set_past standings b new past)) ∙ none c d lt
   ]
-  | inr other ↦ ap may_be_written (get_or-set_other standings b c (record { ready = 0; held = held; flying = flying }) d other) ∙ none c d lt
+  | inr other ↦ ap may_be_written (get_or-set_other standings b c new d other) ∙ none c d lt
 ]

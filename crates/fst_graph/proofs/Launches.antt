@@ -1,7 +1,7 @@
 -- What is launched is what is ready of a writable block.
 use Rattle.std.proofs.Common.{◌≡◌, ◌<◌, ◌==◌, ◌∙◌, ℕ, if◌then◌else◌, List, [], ◌∷◌, Some, None, slice_get, length, map, get_or, set, Contains, refl, sym, ap, subst, arith}
 use Rattle.fst_types.specs.{Facts.SparseAreLawful, Patches.{Patch, block_of_kind}, Writable.{IsWritable, IsWritableSet}, declared.number.PatchNo.PatchNo}
-use Rattle.fst_heads.specs.{Keeps.{IsInside, Tallies}, Lists.Entry, Names.numbers_of, Nodes.{Node, patches_in, AreSettled}, Spreading.{IsRisenOf, launches}, Standings.{held_on, ready_on}, declared.standing.Standing.Standing}
+use Rattle.fst_heads.specs.{Keeps.{IsInside, Tallies}, Lists.Entry, Names.numbers_of, Nodes.{Node, patches_in, AreSettled}, Spreading.{IsRisenOf, launches}, Standings.{held_on, ready_on, sent}, declared.standing.Standing.Standing}
 use Rattle.fst_types.proofs.OneList.{lists_same}
 use Rattle.fst_levels.proofs.Ready.{ready_exact}
 use Rattle.fst_graph.proofs.{Marking.writable_rests, Tallied.tallies_launched}
@@ -31,13 +31,13 @@ pub tallies_chosen : (nodes new : List Node) (numbers blocks b : ℕ) (lists : L
     → SparseAreLawful (patches_in nodes) numbers → SparseAreLawful (patches_in new) numbers
     → IsInside (patches_in nodes) blocks → Tallies nodes numbers blocks lists standings queue cap
     → IsWritable (patches_in nodes) b → chosen ≡ ready_on b nodes
-    → old ≡ get_or standings b old → now ≡ record { ready = 0; held = old.held; flying = old.ready }
+    → old ≡ get_or standings b old → now ≡ sent old
     → IsRisenOf (map (launches chosen) nodes) new → AreSettled new blocks
     → ((c : ℕ) → ready_on c new ≡ (if c == b then [] else ready_on c nodes)) → ((c : ℕ) → held_on c new ≡ held_on c nodes)
     → Tallies new numbers blocks lists (set standings b now) [] cap
 tallies_chosen nodes new numbers blocks b lists standings queue cap chosen old now H H' inside T writable same was is risen settled ready held =
     let rests = writable_rests nodes blocks b standings old inside T.standing writable in
-    let value = is ∙ ap (λ (s : Standing). record { ready = 0; held = s.held; flying = s.ready }) was in
+    let value = is ∙ ap sent was in
     subst (λ s. Tallies new numbers blocks lists (set standings b s) [] cap) (sym value)
     (tallies_launched nodes new numbers blocks b lists standings old queue cap H H' T rests.0 rests.1 (subst (λ ns. IsRisenOf (map (launches ns) nodes) new) same risen) settled ready held)
 

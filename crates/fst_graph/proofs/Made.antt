@@ -211,13 +211,13 @@ module _ {s : Inside} (S : AreSound s) where
         → IsNoted (s.numbers + 1) p.told.end s.needs.ways grown_needs.ways
         → {lists' : Vec (Vec Listed)} → shelved lists'.items ≡ set (shelved s.lists.items) p.block (get_or (shelved s.lists.items) p.block [] ++ entry_of (record { number = s.numbers + 1; span = p.span }) ∷ [])
         → {cover cover' : Covering} {covers' : Vec Covering} → cover ≡ get_or s.covers.items p.block cover → IsCovered cover p.span.at p.span.len (s.numbers + 1) cover' → covers'.items ≡ set s.covers.items p.block cover'
-        → {standings' : Vec Standing} → ((d : Standing) → standings'.items ≡ set s.standings.items p.block (entered (is_hard_kind made.kind) (is_pending over (pending.Block p.block)) (get_or s.standings.items p.block d)))
+        → {standings' : Vec Standing} → ((d : Standing) → standings'.items ≡ set s.standings.items p.block (entered (is_hard_kind made.kind) (is_pending over (pending.Block p.block)) (s.numbers + 1) (get_or s.standings.items p.block d)))
         → {least : ℕ} → least ≤ s.unmarked → least ≤ p.block
         → AreSound (record s { columns = columns; needs = grown_needs; lists = lists'; covers = covers'; standings = standings'; live = s.live + 1; unmarked = least; numbers = s.numbers + 1; prepared = None })
     change_sound walk places {rise = rise} {columns = columns} P pends same named R long at leveled below lifted still there after under gs row put noted listed cover_is covered covers_are enters {least} low here =
         let W = walked_sound S {walked = walked walk places} (record { long = long ∙ ap length same; crossed = omega (arith, (walked walk places).up.crossed.ok.0, s.columns.ends.up.crossed.ok.0, as_many_places S) }) (over_down S) in
         let nodes = P.nodes in
-        let none : Standing = record { ready = 0; held = 0; flying = 0 } in
+        let none : Standing = record { ready = 0; held = 0; flying = 0; held_from = 0 } in
         let patches = put_patches s.columns.heads.list.items columns.heads.list.items made nodes in
         let as_long : length walk.marks ≡ length s.columns.ends.up.walk.marks = omega (arith, long, ap length same, as_many_marks S) in
         record {

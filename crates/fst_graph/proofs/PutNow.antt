@@ -1,12 +1,12 @@
 -- What is prepared may be put down as it is, for a group once its head is not open; and what the fields are then.
-use Rattle.std.proofs.{Common.{◌≡◌, ◌≤◌, ◌<◌, ◌+◌, ◌++◌, ◌∷◌, [], ◌∙◌, ℕ, List, Option, Some, None, IfSome, inr, option_map, Contains, false, length, count_by, get_or, set, arith, refl, sym, ap, subst}, lemmas.{List.length-map, Option.IfSome_then}}
+use Rattle.std.proofs.{Common.{All, ◌≡◌, ◌≤◌, ◌<◌, ◌+◌, ◌++◌, ◌∷◌, [], ◌∙◌, ℕ, List, Option, Some, None, IfSome, inr, option_map, Contains, false, length, count_by, get_or, set, arith, refl, sym, ap, subst}, lemmas.{List.{length-map, Elements.Contains-get_or}, Option.IfSome_then}}
 use Rattle.fst_types.specs.{Dependencies.IsLiveNumber, Facts.SparseAreLawful, Gates.IsOpenNumber, Limits.max_heads, Patches.Patch, Tests.is_live}
 use Rattle.fst_heads.specs.{Heads.patches_of, Keeps.{Keeps, Tallies}, Lists.entry, Names.numbers_of, Nodes.{node_of, nodes_of, patches_in}, Pendings.is_pending}
 use Rattle.fst_heads.specs.{Standings.{entered, standing_of}, Tests.is_hard_kind, declared.standing.Standing.Standing}
 use Rattle.fst_graph.specs.declared.sparse.Sparse.TheInside.{Inside}
 use Rattle.fst_graph.specs.{Known.{Known, Prepared}, Ready.{change_of, prepared_of, IsReady, IsReadyFor, MayBePut}}
 use Rattle.fst_graph.specs.{Sound.{AreSound, IsPrepared, remembered_of, view_of}, declared.prepared.Gates.Gates, declared.prepared.Prepared.Prepared as Stored}
-use Rattle.fst_heads.proofs.{Added.{new_node, with_node}, AtNumber.patches_in_nodes, Stands.stand_change, Touching.keeps_change}
+use Rattle.fst_heads.proofs.{Added.{new_node, with_node}, AtNumber.patches_in_nodes, Placed.patch_in, Stands.stand_change, Touching.keeps_change}
 use Rattle.fst_levels.proofs.{Seen.lawful_nodes, Shelves.shelved}
 use Rattle.fst_graph.proofs.{Listed.{listed_change, live_dependency}, Readied.hard_may, Sound.{as_many_lists, prepared_is}, Tallied.tallies_made}
 use Rattle.fst_heads.specs.declared.pending.Pending.TheVariants as pending
@@ -19,10 +19,10 @@ pub record IsPutDown (s : Inside) (p : Stored) : Type 0 where
   pub shelf : p.block < length s.lists.items
   pub given : (q : ℕ) → Contains p.dependencies.items q → q ≤ s.numbers
   pub keeps : Keeps (patches_of s.columns.heads.list.items ++ change_of s.numbers p ∷ []) (s.numbers + 1) s.blocks (s.columns.ends.up.walk.marks ++ false ∷ [])
-  pub counted : (own : Standing) → own ≡ get_or s.standings.items p.block own → own ≡ standing_of (nodes_of s.columns.heads.list.items) p.block
+  pub counted : (own : Standing) → own ≡ get_or s.standings.items p.block own → own ≡ standing_of (nodes_of s.columns.heads.list.items) p.block (get_or s.standings.items p.block own).held_from
   pub tallies : (own : Standing) → Tallies (with_node (nodes_of s.columns.heads.list.items) (change_of s.numbers p)) (s.numbers + 1) s.blocks
       (set (shelved s.lists.items) p.block (get_or (shelved s.lists.items) p.block [] ++ entry (change_of s.numbers p) ∷ []))
-      (set s.standings.items p.block (entered (is_hard_kind (change_of s.numbers p).kind) (is_pending (new_node (nodes_of s.columns.heads.list.items) (change_of s.numbers p)).pending (pending.Block p.block)) (get_or s.standings.items p.block own)))
+      (set s.standings.items p.block (entered (is_hard_kind (change_of s.numbers p).kind) (is_pending (new_node (nodes_of s.columns.heads.list.items) (change_of s.numbers p)).pending (pending.Block p.block)) (s.numbers + 1) (get_or s.standings.items p.block own)))
       s.columns.queue.items s.columns.queue.cap
 
 -- and where it is for a group, its head is not open
@@ -65,6 +65,8 @@ module _ {s : Inside} (S : AreSound s) where
       let lawful = subst (λ ps. SparseAreLawful (ps ++ made ∷ []) (s.numbers + 1)) (sym (patches_in_nodes s.columns.heads.list.items)) keeps.lawful in
       let live : (m : ℕ) → Contains p.dependencies.items m → IsLiveNumber (patches_in nodes) m =
       λ m h. subst (λ ps. IsLiveNumber ps m) (sym (patches_in_nodes s.columns.heads.list.items)) (live_dependency old (numbers_of p.names.items) p.block p.span.at p.span.len m (ready.depends.only m h)) in
+      let newest : All (λ x. x.patch.number < s.numbers + 1) nodes =
+      λ k d lt. let n = S.keeps.lawful.one_place_each.numbered _ (subst (λ ps. Contains ps (get_or nodes k d).patch) (patches_in_nodes s.columns.heads.list.items) (patch_in nodes _ (Contains-get_or nodes k d lt))) in let le = n.1 in omega (arith, le) in
       record {
         prepared = prepared_is S p kept;
         ready = ready;
@@ -80,7 +82,7 @@ module _ {s : Inside} (S : AreSound s) where
         tallies = λ own. tallies_made nodes s.numbers s.blocks _ _ _ _ _ _ s.columns.queue.cap made (lawful_nodes s.columns.heads.list.items s.numbers S.keeps.lawful) lawful T refl ready.depends.rising live
             (λ b on. let same : p.block ≡ b = cc in subst (λ m. m < s.blocks) same ready.inside)
             (listed_change nodes s.blocks _ made p.block p.span.at p.span.len p.told.grade [] T.listed refl refl ready.inside)
-            (stand_change nodes s.blocks s.standings.items made p.block p.span.at p.span.len p.told.grade own refl refl ready.inside T.standing)
+            (stand_change nodes s.blocks s.standings.items made p.block p.span.at p.span.len p.told.grade own refl refl ready.inside newest T.standing)
             (omega (arith, free, s.columns.heads.list.ok.0, length-map s.columns.heads.list.items node_of));
       }
 

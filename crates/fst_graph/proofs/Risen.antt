@@ -1,10 +1,10 @@
 -- What a launch leaves: of the changes in flight, and of what is over them, another is pending; all else is as the launch of the patches alone leaves it.
-use Rattle.std.proofs.Common.{◌≡◌, ◌<◌, ◌+◌, ◌==◌, ◌∙◌, ◌∷◌, [], ℕ, Bool, true, false, not, cond, if◌then◌else◌, List, length, map, get_or, set, count_by, get_or-set_same, get_or-set_other, Contains, refl, sym, ap, subst, arith}
-use Rattle.std.proofs.lemmas.Bool.{cond-false, cond-true, eq-eqb, ne_eqb}
+use Rattle.std.proofs.Common.{◌≡◌, ◌<◌, ◌≤◌, ◌+◌, ◌==◌, ◌∙◌, ◌∷◌, [], ℕ, Bool, true, false, not, cond, if◌then◌else◌, List, length, map, filter, get_or, set, count_by, get_or-set_same, get_or-set_other, Contains, refl, sym, ap, subst, arith}
+use Rattle.std.proofs.lemmas.{Bool.{cond-false, cond-true, eq-eqb, ne_eqb}, List.Elements.All-contains}
 use Rattle.fst_types.specs.{Dependencies.IsLiveNumber, Facts.HasOnePlaceEach, Tests.{is_change_at, is_live}, Writing.launched}
-use Rattle.fst_types.proofs.{Finite.{In, In-from_Contains, Contains-from_In, In-map}, GateGains.In-unmap}
+use Rattle.fst_types.proofs.{Dropping.{filter_in, in_filter}, Finite.{In, In-from_Contains, Contains-from_In, In-get_or, In-map}, GateGains.In-unmap}
 use Rattle.fst_heads.specs.{Keeps.Beside, Landed.{AreLanded, is_landed}, Nodes.{Node, AreSettled, patches_in}, Pendings.is_pending, Spreading.{IsRisenOf, launches, unrisen}}
-use Rattle.fst_heads.specs.{Standings.{AllStand, held_on, is_flying_on, is_held_on, ready_on}, declared.standing.Standing.Standing}
+use Rattle.fst_heads.specs.{Standings.{AllStand, NoneHeldBelow, held_on, is_flying_on, is_held_on, ready_on, sent}, declared.standing.Standing.Standing}
 use Rattle.fst_heads.proofs.{Beside.{is_nothing, waiting_is}, Counts.{held_counted, ready_counted}, CountsAs.{count_cons, count_map, stand_set, standing_same}, Placed.{launched_stands, patch_in, patches_launched, unmapped}, Stands.stand_launched}
 use Rattle.fst_graph.proofs.Settling.{ready_memory}
 use Rattle.fst_types.specs.declared.place.Place.TheVariants as place
@@ -86,24 +86,39 @@ module _ (nodes new : List Node) (numbers blocks b : ℕ) (H : HasOnePlaceEach (
     few = B.few;
   }
 
+  -- where the same are held, none is held below the same number
+  none_held_again : (c : ℕ) → held_on c new ≡ held_on c nodes → (from : ℕ) → NoneHeldBelow nodes c from → NoneHeldBelow new c from
+  none_held_again c same from none k d lt e =
+      let y = get_or new k d in
+      let number : Node → ℕ = λ x. x.patch.number in
+      let listed = In-map number (filter (is_held_on c) new) y y.patch.number (in_filter (is_held_on c) new y (In-get_or new k d lt) e) refl in
+      let r = In-unmap number (filter (is_held_on c) nodes) y.patch.number (subst (λ ns. In ns y.patch.number) same listed) in
+      let was = filter_in (is_held_on c) nodes r.0 r.1 in
+      let le = All-contains (λ x. is_held_on c x ≡ true → from ≤ x.patch.number) nodes r.0 none (Contains-from_In nodes r.0 was.0) was.1 in
+      omega (arith, le, r.2)
+
   -- all that is ready of the block goes, and nothing else
   pub stand_risen : (standings : List Standing) (d : Standing) → b < blocks → (get_or standings b d).flying ≡ 0
       → ((c : ℕ) → ready_on c new ≡ (if c == b then [] else ready_on c nodes)) → ((c : ℕ) → held_on c new ≡ held_on c nodes)
       → AllStand nodes blocks standings
-      → AllStand new blocks (set standings b (record { ready = 0; held = (get_or standings b d).held; flying = (get_or standings b d).ready }))
+      → AllStand new blocks (set standings b (sent (get_or standings b d)))
   stand_risen standings d lt rest ready held A =
-      let s : Standing = record { ready = 0; held = (get_or standings b d).held; flying = (get_or standings b d).ready } in
+      let s : Standing = sent (get_or standings b d) in
       let L = stand_launched nodes numbers blocks b standings d H lt rest A in
       let flies : (c : ℕ) → count_by (is_flying_on c) new ≡ count_by (is_flying_on c) mid =
       λ c. flies_by c new ∙ (ap (count_by (is_change_at place.Flight c)) (sym (patches_unrisen new) ∙ (ap patches_in R ∙ patches_unrisen mid)) ∙ sym (flies_by c mid)) in
       let holds : (c : ℕ) → count_by (is_held_on c) new ≡ count_by (is_held_on c) nodes =
       λ c. sym (held_counted c new) ∙ (ap length (held c) ∙ held_counted c nodes) in
       stand_set new nodes blocks b standings s lt A
-      (standing_same _ _ _ _ _ _
+      (standing_same _ _ _ _ _ _ _
       (sym (sym (ready_counted b new) ∙ ap length (ready b ∙ cond-true (b == b) [] (ready_on b nodes) (eq-eqb b b refl))))
       (ap (λ t. t.held) (A.each b d lt) ∙ sym (holds b))
       (sym (ap (λ t. t.flying) (get_or-set_same standings b s d (omega (arith, lt, A.long)))) ∙ (ap (λ t. t.flying) (L.each b d lt) ∙ sym (flies b))))
-      (λ c inside ne. standing_same _ _ _ _ _ _
-      (sym (ready_counted c new) ∙ (ap length (ready c ∙ cond-false (c == b) [] (ready_on c nodes) (ne_eqb c b ne)) ∙ ready_counted c nodes))
-      (holds c)
-      (flies c ∙ (sym (ap (λ t. t.flying) (L.each c d inside)) ∙ (ap (λ t. t.flying) (get_or-set_other standings b c s d ne) ∙ ap (λ t. t.flying) (A.each c d inside)))))
+      (none_held_again b (held b) _ (A.above b d lt))
+      (λ c inside ne. record {
+        counted = λ from. standing_same _ _ _ _ _ _ from
+            (sym (ready_counted c new) ∙ (ap length (ready c ∙ cond-false (c == b) [] (ready_on c nodes) (ne_eqb c b ne)) ∙ ready_counted c nodes))
+            (holds c)
+            (flies c ∙ (sym (ap (λ t. t.flying) (L.each c d inside)) ∙ (ap (λ t. t.flying) (get_or-set_other standings b c s d ne) ∙ ap (λ t. t.flying) (A.each c d inside))));
+        above = none_held_again c (held c);
+      })

@@ -174,10 +174,10 @@ module _ {s : Inside} (S : AreSound s) where
   its_list slice e b lt list there = listed_at s.columns.heads.list.items s.blocks b s.lists.items list S.tallies.listed (omega (arith, lt, many_lists slice e)) (subst (λ ls. list ≡ get_or ls b list) e there)
 
   pub its_standing : (slice : List (Vec Listed)) → slice ≡ s.lists.items → (b : ℕ) → b < length slice → (told : List Standing) → told ≡ s.standings.items
-      → (b < length told) × ((d : Standing) → get_or told b d ≡ standing_of (nodes_of s.columns.heads.list.items) b)
+      → (b < length told) × ((d : Standing) → get_or told b d ≡ standing_of (nodes_of s.columns.heads.list.items) b (get_or told b d).held_from)
   its_standing slice e b lt told same =
       let inside : b < s.blocks = omega (arith, lt, many_lists slice e) in
-      (omega (arith, inside, ap length same, S.tallies.standing.long), λ d. ap (λ xs. get_or xs b d) same ∙ S.tallies.standing.each b d inside)
+      (omega (arith, inside, ap length same, S.tallies.standing.long), λ d. rw same (S.tallies.standing.each b d inside))
 
 -- what is forgotten is on disk, and the patches that are not forgotten are as many as heads are not marked
 module _ {s : Inside} (I : AreSound s × AreRemembered s.columns.heads.list.items s.landed s.forgotten s.prepared) where

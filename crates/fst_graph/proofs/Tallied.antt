@@ -1,17 +1,18 @@
 -- What stands beside the patches after each call.
 use Rattle.std.proofs.Common.{◌≡◌, ◌<◌, ◌≤◌, ◌==◌, ◌&&◌, ℕ, ◌+◌, false, if◌then◌else◌, List, [], ◌∷◌, ◌++◌, length, map, filter, get_or, set, Contains, refl, sym, ap, subst, ◌∙◌, inl, inr, arith}
 use Rattle.std.proofs.Math.Bool.{and-false}
-use Rattle.std.proofs.lemmas.{Bool.{cond_both, cases_Bool, cases_eq}, List.{length-map, length_push}, List.Sums.{length-filter, count_by-le-length}}
+use Rattle.std.proofs.lemmas.{Bool.{cond_both, cases_Bool, cases_eq}, List.{length-map, length_push}, List.Elements.Contains-get_or, List.Sums.{length-filter, count_by-le-length}}
 use Rattle.std.specs.List.Sorted.{IsStrictlyIncreasing}
 use Rattle.fst_types.specs.{Dependencies.{DirectlyOn, IsLiveNumber}, Facts.SparseAreLawful, Gates.IsOpenNumber, Gating.gains, Lists.Lists}
 use Rattle.fst_types.specs.{Patches.{Patch, IsOn, OpenGate}, Tests.{is_live, is_on, is_change_at}, Writing.launched}
 use Rattle.fst_heads.specs.{Keeps.Tallies, Lists.{Entry, entries_on, is_live_on, AreListed}, Nodes.{Node, patches_in, at_number, linked_to, pending_in, AreLinked, AreGiven, AreDistinct, AreSettled}}
-use Rattle.fst_heads.specs.{Pendings.sums_of, Spreading.{IsRisenOf, IsSpreadOf, launches, lands, seals}, Standings.{AllStand, held_on, ready_on}, declared.standing.Standing.Standing}
+use Rattle.fst_heads.specs.{Pendings.sums_of, Spreading.{IsRisenOf, IsSpreadOf, launches, lands, seals}, Standings.{AllStand, NoneHeldBelow, held_on, ready_on, sent}, declared.standing.Standing.Standing}
 use Rattle.fst_types.proofs.{Crash.same_number, Dropping.filter_in, Finite.{In, In-from_Contains, Contains-from_In}}
 use Rattle.fst_heads.proofs.{Added.{with_node, new_node, with_names}, AtNumber.{at_same, at_other}}
 use Rattle.fst_heads.proofs.Carried.{risen_spread, length_spread, linked_spread, given_spread, distinct_spread, listed_spread, linked_sealed, distinct_sealed, linked_landed, distinct_landed}
 use Rattle.fst_heads.proofs.Placed.{KeepLinks, SameLinks, patch_in, linked_kept, given_kept, distinct_kept, links_mapped, entries_mapped, launched_stands, launched_links, patches_dropped, entries_dropped, number_if, dependencies_if}
-use Rattle.fst_heads.proofs.Stands.{stand_gained, stand_dropped}
+use Rattle.fst_heads.proofs.{CountsAs.stand_set, Stands.{stand_gained, stand_dropped}}
+use Rattle.fst_levels.proofs.Ready.{held_first, held_in}
 use Rattle.fst_levels.proofs.Linked.{patches_made, made_linked, made_given, made_distinct, named_linked, named_given, named_distinct, patches_named, both, both_nodes, gain_stands}
 use Rattle.fst_graph.proofs.{Marking.{counted_settled, marked_settled}, Risen.{patches_risen, ready_live, stand_risen}, Settling.{made_settled, depends_settled, dropped_settled}}
 use Rattle.fst_types.specs.declared.place.Place.TheVariants as place
@@ -80,7 +81,7 @@ pub tallies_launched : (nodes new : List Node) (numbers blocks b : ℕ) (lists :
     → Tallies nodes numbers blocks lists standings queue cap → b < blocks → (get_or standings b d).flying ≡ 0
     → IsRisenOf (map (launches (ready_on b nodes)) nodes) new → AreSettled new blocks
     → ((c : ℕ) → ready_on c new ≡ (if c == b then [] else ready_on c nodes)) → ((c : ℕ) → held_on c new ≡ held_on c nodes)
-    → Tallies new numbers blocks lists (set standings b (record { ready = 0; held = (get_or standings b d).held; flying = (get_or standings b d).ready })) [] cap
+    → Tallies new numbers blocks lists (set standings b (sent (get_or standings b d))) [] cap
 tallies_launched nodes new numbers blocks b lists standings d queue cap H H' T lt rest risen settled ready held =
     let chosen = ready_on b nodes in
     let mid = map (launches chosen) nodes in
@@ -100,6 +101,22 @@ tallies_launched nodes new numbers blocks b lists standings d queue cap H H' T l
     })
     (stand_risen nodes new numbers blocks b H.one_place_each T.settled settled risen standings d lt rest ready held T.standing) refl
     (omega (arith, long, same, T.room))
+
+-- the least held change of a block is found
+pub stand_found : (nodes : List Node) (blocks b n : ℕ) (standings : List Standing) (own now : Standing) → b < blocks → own ≡ get_or standings b own → now ≡ record own { held_from = n }
+    → NoneHeldBelow nodes b n → AllStand nodes blocks standings → AllStand nodes blocks (set standings b now)
+stand_found nodes blocks b n standings own now lt there is low A =
+    rw is (stand_set nodes nodes blocks b standings (record own { held_from = n }) lt A (ap (λ (s : Standing). record s { held_from = n }) (there ∙ A.each b own lt)) low (λ c inside ne. record { counted = λ from. refl; above = λ from none. none }))
+
+pub tallies_found : (nodes : List Node) (numbers blocks b n : ℕ) (lists : List (List Entry)) (standings : List Standing) (queue : List ℕ) (cap : ℕ) (own now : Standing)
+    → SparseAreLawful (patches_in nodes) numbers → Tallies nodes numbers blocks lists standings queue cap → b < blocks
+    → own ≡ get_or standings b own → now ≡ record own { held_from = n } → (rest : List ℕ) × (held_on b nodes ≡ n ∷ rest)
+    → Tallies nodes numbers blocks lists (set standings b now) queue cap
+tallies_found nodes numbers blocks b n lists standings queue cap own now H T lt there is found =
+    let least = held_first nodes numbers blocks H T.settled b n found.0 found.1 in
+    let low : NoneHeldBelow nodes b n = λ k d in_range held. least.least (get_or nodes k d).patch (held_in nodes numbers blocks H T.settled b (get_or nodes k d) (Contains-get_or nodes k d in_range) held) in
+    tallies_from nodes numbers numbers blocks lists (set standings b now) queue cap H T.linked T.given T.distinct T.settled T.listed
+    (stand_found nodes blocks b n standings own now lt there is low T.standing) T.idle T.room
 
 -- those on disk are forgotten
 pub tallies_dropped : (nodes : List Node) (numbers blocks : ℕ) (lists : List (List Entry)) (standings : List Standing) (queue : List ℕ) (cap : ℕ)

@@ -31,7 +31,7 @@ use fst_heads::lists::{Listed, empty_lists, land_block};
 use fst_heads::places::block_of;
 use fst_heads::row::is_given;
 use fst_heads::standing::{
-    Standing, empty_standings, flying_count, held_count, land_at, least_marked, ready_count,
+    Standing, empty_standings, flying_count, land_at, least_marked, ready_count,
 };
 use fst_levels::ancestors::renew;
 use fst_levels::levels::Levels;
@@ -328,8 +328,12 @@ impl Sparse {
         let Some(list) = self.lists.get(block.0 as usize) else {
             return None;
         };
-        let held = held_count(&self.standings, block.0);
-        first_held(&self.columns.heads, list, held, block.0)
+        let standing = self.standings[block.0 as usize];
+        let Some(no) = first_held(&self.columns.heads, list, standing, block.0) else {
+            return None;
+        };
+        self.standings[block.0 as usize].find_held(no.0);
+        Some(no)
     }
 
     /// Whether the writable set of the block has a change, where nothing of the block is in flight. It takes no memory.

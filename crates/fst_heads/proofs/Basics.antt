@@ -10,7 +10,7 @@ pub use Rattle.std.proofs.lemmas.Bool.{cond_both, cases_Bool, or_parts, cases_eq
 pub use Rattle.std.proofs.lemmas.Bool.Decides.{nat_tests}
 pub use Rattle.std.proofs.lemmas.List.{drop_all, take_more_set, take-set-le, drop-set, drop-set-lt, length-take, length-drop, map-append, map-id, length-map, get_or-map, take_more, set-get_or, length_push, drop_more, map-set, get_or_append_left, nil_from_length, map_push}
 pub use Rattle.std.proofs.lemmas.List.Edits.{length-insert, get_or-insert_below, get_or-insert_at, get_or-insert_above, length-between, get_or-between}
-pub use Rattle.std.proofs.lemmas.List.Elements.{Contains-push_cases, Contains-append_left, Contains-append_right, Contains-push, Contains-get_or, filter-append, Contains-append_cases}
+pub use Rattle.std.proofs.lemmas.List.Elements.{All-contains, All-head, All-tail, All-push, All-filter, All-map, All-set, All-weaker, Contains-push_cases, Contains-append_left, Contains-append_right, Contains-push, Contains-get_or, filter-append, Contains-append_cases}
 pub use Rattle.std.proofs.lemmas.List.Folds.{list_any-from_Any, Any-from_list_any}
 pub use Rattle.std.proofs.lemmas.List.Kept.{AllPairs-from_increasing, AllPairs-filter, AllPairs-cons}
 pub use Rattle.std.proofs.lemmas.List.Sorted.{searched, IsPermutation-insert, IsPermutation-sym, Contains-permutation, answers_always}

@@ -1,8 +1,8 @@
 -- The walk along the list of a block for those of its patches that pass a test.
-use Rattle.fst_heads.proofs.Basics.{common_steps, cond, IfNone, IfSome, Option, None, Some, ◌≤◌, ◌++◌, reverse, reverse_onto, map-append, nil_from_length, ◌≡◌, ◌==◌, ◌&&◌, ℕ, Bool, true, List, [], ◌∷◌, map, filter, length, refl, sym, ap, ◌∙◌, inr, list_any, cases_Bool, and_parts, arith, inl, suc, ◌<◌, false, append-nil, append_assoc, length-append, map_push}
+use Rattle.fst_heads.proofs.Basics.{All, AllPairs, AllPairs-filter, All-contains, All-head, All-tail, Any-from_list_any, eqb-true, false_from_ne_true, subst, common_steps, cond, IfNone, IfSome, Option, None, Some, ◌≤◌, ◌++◌, reverse, reverse_onto, map-append, nil_from_length, ◌≡◌, ◌==◌, ◌&&◌, ℕ, Bool, true, List, [], ◌∷◌, map, filter, length, refl, sym, ap, ◌∙◌, inr, list_any, cases_Bool, and_parts, arith, inl, suc, ◌<◌, false, append-nil, append_assoc, length-append, map_push}
 use Rattle.fst_heads.proofs.Patches.{PatchNo, In, Contains-from_In}
-use Rattle.fst_heads.proofs.Words.{numbers_of, is_held_on, Head, Listed, IsRising, patches_of, entries_of, entries_on, is_live_on, Node, node_of, nodes_of, is_ready_on}
-use Rattle.fst_heads.proofs.{Listing.{any_index, numbers_on}, Indices.any_default}
+use Rattle.fst_heads.proofs.Words.{numbers_of, is_held_on, Head, Listed, IsRising, patches_of, entries_of, entries_on, entry, entry_of, is_live_on, Node, node_of, nodes_of, is_ready_on}
+use Rattle.fst_heads.proofs.{Listing.{any_index, numbers_on, rising_patches}, Indices.{any_default, rising_back, rising_map}}
 
 -- the node with number n passes
 abbrev pub passes_at : (Node → Bool) → List Node → ℕ → Bool
@@ -24,6 +24,29 @@ module _ (b : ℕ) (t : Node → Bool) (inside : (x : Node) → t x ≡ true →
       ∙ passing_each (passes_at t (nodes_of heads)) heads (λ h i.
       let c = Contains-from_In heads h i in
       any_index heads h.number c.0 t h rising (c.1, λ d. ap (λ k. k.number) (any_default heads c.0 d h c.1 ∙ c.2)) ∙ ap (λ k. t (node_of k)) c.2)
+
+-- of the numbers before one from which on alone some pass, none does
+pub passing_before : (t : Node → Bool) (heads : List Head) (from : ℕ) → All (λ x. t x ≡ true → from ≤ x.patch.number) (nodes_of heads)
+    → (before rest : List Listed) → All (λ l. l.number < from) before → passing t heads (before ++ rest) ≡ passing t heads rest
+passing_before t heads from above [] rest less = refl
+passing_before t heads from above (l ∷ ls) rest less =
+    rw (none_passes l.number (All-head (λ x. x.number < from) l ls less)) (passing_before t heads from above ls rest (All-tail (λ x. x.number < from) l ls less))
+  where
+    none_passes : (n : ℕ) → n < from → passes_at t (nodes_of heads) n ≡ false
+    none_passes n lt = false_from_ne_true (passes_at t (nodes_of heads) n) (λ e.
+        let a = Any-from_list_any (λ x. (x.patch.number == n) && t x) (nodes_of heads) e in
+        let k = and_parts (a.1.patch.number == n) (t a.1) a.4 in
+        let same = eqb-true a.1.patch.number n k.0 in
+        let le = All-contains (λ x. t x ≡ true → from ≤ x.patch.number) (nodes_of heads) a.1 above (a.0, a.2, a.3) k.1 in
+        omega (arith, lt, same, le))
+
+-- the numbers of a list rise
+pub rising_list : (b : ℕ) (heads : List Head) (list : List Listed) → IsRising heads → entries_of list ≡ entries_on b (patches_of heads) → AllPairs (λ x y. x.number < y.number) list
+rising_list b heads list rising listed =
+    rising_back entry_of list (λ l. l.number) (λ e. e.number) (λ l. refl)
+    (subst (AllPairs (λ x y. x.number < y.number)) (sym listed)
+    (rising_map entry (filter (is_live_on b) (patches_of heads)) (λ p. p.number) (λ e. e.number) (λ p. refl)
+    (AllPairs-filter (λ p q. p.number < q.number) (is_live_on b) (patches_of heads) (rising_patches heads rising))))
 
 pub ready_listed : (b : ℕ) (x : Node) → is_ready_on b x ≡ true → is_live_on b x.patch ≡ true
 ready_listed b x e = grind (arith, and_parts)

@@ -1,8 +1,8 @@
 -- What becomes of the counts of each block where what is pending of one patch is settled.
-use Rattle.fst_heads.proofs.Basics.{◌≡◌, ◌≢◌, ℕ, ◌+◌, ◌<◌, ◌&&◌, Bool, true, false, cond, List, length, count_by, set, get_or, refl, sym, ap, subst, ◌∙◌, arith, length-set, cases_eq, eq-eqb, ne_eqb, false≢true, length-map, get_or-map, rules, map-set, common_steps}
+use Rattle.fst_heads.proofs.Basics.{◌≡◌, ◌≢◌, ℕ, ◌+◌, ◌<◌, ◌≤◌, ◌&&◌, All-set, and_right, Bool, true, false, cond, List, length, count_by, set, get_or, refl, sym, ap, subst, ◌∙◌, arith, length-set, cases_eq, eq-eqb, ne_eqb, false≢true, length-map, get_or-map, rules, map-set, common_steps}
 use Rattle.fst_heads.proofs.{Basics.{sum_by-set, get_or-le-sum_by, count_by-le-length}, Patches.{Grade, Change, is_at, is_on, is_change_at}}
-use Rattle.fst_heads.proofs.Words.{Head, kind_of, patch_of, Standing, Node, node_of, nodes_of, is_pending, Sinks, now, is_recorded, recorded, AllStand, is_ready_on, is_held_on, is_flying_on, standing_of, released, is_hard_kind}
-use Rattle.fst_heads.proofs.{CountsAs.{CountsAs, standing_same, stand_set, off_as}, Turning.is_itself, Beside.one_if}
+use Rattle.fst_heads.proofs.Words.{Head, kind_of, patch_of, Standing, Node, node_of, nodes_of, is_pending, Sinks, now, is_recorded, recorded, AllStand, is_ready_on, is_held_on, is_flying_on, standing_of, NoneHeldBelow, released, is_hard_kind}
+use Rattle.fst_heads.proofs.{CountsAs.{CountsAs, StandsAs, standing_same, stand_as, stand_set, off_as}, Turning.is_itself, Beside.one_if}
 use Rattle.fst_heads.proofs.Patches.place
 use Rattle.fst_heads.proofs.Words.pending
 
@@ -15,6 +15,11 @@ pub waited_for_more : (x : Node) (b at len : ℕ) (grade : Grade) → x.patch.ki
     → is_pending x.pending (pending.Block b) ≡ false
 waited_for_more x b at len grade kind memory sinks stale = grind (arith, false≢true, is_itself)
 
+-- a release leaves from where on what is held is looked for
+released_from : (hard : Bool) (s : Standing) → (released hard s).held_from ≡ s.held_from
+released_from true s = refl
+released_from false s = refl
+
 module _ (nodes : List Node) (s : ℕ) (x : Node) (lt : s < length nodes) (e : get_or nodes s x ≡ x) where
   -- a count where the node is another
   count_set : (t : Node → Bool) (y : Node) → count_by t (set nodes s y) + cond (t x) 1 0 ≡ count_by t nodes + cond (t y) 1 0
@@ -23,12 +28,19 @@ module _ (nodes : List Node) (s : ℕ) (x : Node) (lt : s < length nodes) (e : g
   count_same : (t : Node → Bool) (y : Node) → t y ≡ t x → count_by t (set nodes s y) ≡ count_by t nodes
   count_same t y same = let all = count_set t y in let one = ap one_if same in omega (arith, all, one)
 
+  -- none with a lesser number is held, where the node has no lesser one
+  none_held_set : (b from : ℕ) (y : Node) → (is_held_on b y ≡ true → from ≤ y.patch.number) → NoneHeldBelow nodes b from → NoneHeldBelow (set nodes s y) b from
+  none_held_set b from y own none = All-set (λ z. is_held_on b z ≡ true → from ≤ z.patch.number) nodes s y own none
+
   -- it counts as before, or otherwise for one block
-  standing_kept : (b : ℕ) (y : Node) → CountsAs b y x → standing_of (set nodes s y) b ≡ standing_of nodes b
-  standing_kept b y same = standing_same _ _ _ _ _ _ (count_same (is_ready_on b) y same.ready) (count_same (is_held_on b) y same.held) (count_same (is_flying_on b) y same.flying)
+  standing_kept : (b : ℕ) (y : Node) → CountsAs b y x → StandsAs b (set nodes s y) nodes
+  standing_kept b y same = record {
+    counted = λ from. standing_same _ _ _ _ _ _ from (count_same (is_ready_on b) y same.ready) (count_same (is_held_on b) y same.held) (count_same (is_flying_on b) y same.flying);
+    above = λ from none. none_held_set b from y (λ held. omega (arith, same.number held, subst (λ z. is_held_on b z ≡ true → from ≤ z.patch.number) e (none s x lt) (sym same.held ∙ held))) none;
+  }
 
   pub stand_kept : (blocks : ℕ) (standings : List Standing) (y : Node) → ((b : ℕ) → CountsAs b y x) → AllStand nodes blocks standings → AllStand (set nodes s y) blocks standings
-  stand_kept blocks standings y same S = record { long = S.long; each = λ b d inside. S.each b d inside ∙ sym (standing_kept b y (same b)) }
+  stand_kept blocks standings y same S = stand_as (set nodes s y) nodes blocks standings (λ b inside. standing_kept b y (same b)) S
 
   -- what counts is counted
   pub counted_some : (t : Node → Bool) → t x ≡ true → 0 < count_by t nodes
@@ -62,14 +74,20 @@ module _ (nodes : List Node) (s : ℕ) (x : Node) (lt : s < length nodes) (e : g
 
       pub stand_released : (blocks : ℕ) (standings : List Standing) (d : Standing) → b < blocks → AllStand nodes blocks standings
           → AllStand (set nodes s (recorded x)) blocks (set standings b (released (is_hard_kind x.patch.kind) (get_or standings b d)))
-      stand_released blocks standings d inside S = stand_set (set nodes s (recorded x)) nodes blocks b standings _ inside S own (λ c within ne. standing_kept c (recorded x) (off_as c (recorded x) x (off c ne) (off c ne)))
+      stand_released blocks standings d inside S = stand_set (set nodes s (recorded x)) nodes blocks b standings _ inside S own
+          (subst (NoneHeldBelow (set nodes s (recorded x)) b) (sym (released_from (is_hard_kind x.patch.kind) (get_or standings b d)))
+          (none_held_set b _ (recorded x) (λ held. absurd (false≢true (sym not_held ∙ held))) (S.above b d inside)))
+          (λ c within ne. standing_kept c (recorded x) (off_as c (recorded x) x (off c ne) (off c ne)))
         where
-          own : released (is_hard_kind x.patch.kind) (get_or standings b d) ≡ standing_of (set nodes s (recorded x)) b
+          not_held : is_held_on b (recorded x) ≡ false
+          not_held = rw (here, block_again) (and_right (is_hard_kind x.patch.kind) false refl)
+
+          own : released (is_hard_kind x.patch.kind) (get_or standings b d) ≡ standing_of (set nodes s (recorded x)) b (released (is_hard_kind x.patch.kind) (get_or standings b d)).held_from
           own = grind (arith, common_steps, count_same)
 
 -- what is told of anything else changes no count
 pub recorded_kept : (x : Node) (b : ℕ) → is_change_at place.Memory b x.patch ≡ false → CountsAs b (recorded x) x
-recorded_kept x b off = record { ready = rw off refl; held = rw off refl; flying = refl }
+recorded_kept x b off = record { ready = rw off refl; held = rw off refl; flying = refl; number = λ held. refl }
 
 -- the head at the index takes what is pending now
 pub nodes_settled : (heads : List Head) (s : ℕ) (y h : Head) → node_of y ≡ recorded (node_of h) → nodes_of (set heads s y) ≡ set (nodes_of heads) s (recorded (node_of h))
@@ -97,7 +115,7 @@ module _ (heads : List Head) (s : ℕ) (h : Head) (lt : s < length heads) (e : h
   -- of a change of b in memory
   module _ (b at len : ℕ) (grade : Grade) (kind : kind_of h.kind ≡ Change b at len grade) (memory : h.place ≡ place.Memory)
       (sinks : Sinks h.pending (now (node_of h))) (stale : is_recorded (node_of h) ≡ false) (inside : b < blocks) (st : Standing) (own : st ≡ get_or standings b st) where
-    counted : st ≡ standing_of (nodes_of heads) b
+    counted : st ≡ standing_of (nodes_of heads) b (get_or standings b st).held_from
     counted = own ∙ S.each b st inside
 
     pub few_ready : is_pending (now (node_of h)) (pending.Block b) ≡ true → st.ready < length heads

@@ -1,9 +1,9 @@
 -- How the counts of each block follow what becomes of patches.
-use Rattle.fst_heads.proofs.Basics.{◌≡◌, ◌≢◌, ◌&&◌, ◌+◌, ◌<◌, ◌≤◌, ℕ, Bool, true, false, cond, List, map, filter, count_by, set, get_or, AllPairs, refl, sym, ap, subst, ◌∙◌, inl, inr, arith, cases_Bool, cases_eq, and_parts, ne_eqb, false≢true, rules, common_steps}
-use Rattle.fst_heads.proofs.Patches.{Grade, Place, HasOnePlaceEach, IsOpenNumber, Kind, Patch, Change, OpenGate, SealedGate, is_among, is_at, is_live, is_on, same_number, filter_in, in_filter, In, Contains-from_In, In-map, In-unmap, among_in, in_among}
-use Rattle.fst_heads.proofs.Words.{Pending, Sums, Standing, IsInside, Node, patches_in, at_number, linked_to, gains_names, is_pending, notified, seals, lands, launches, AllStand, is_ready_on, is_held_on, is_flying_on, ready_on, standing_of, entered, is_hard_kind}
+use Rattle.fst_heads.proofs.Basics.{◌≡◌, ◌≢◌, ◌&&◌, ◌+◌, ◌<◌, ◌≤◌, ℕ, Bool, true, false, not, cond, List, map, filter, count_by, set, get_or, All, AllPairs, refl, sym, ap, subst, ◌∙◌, inl, inr, arith, cases_Bool, cases_eq, cases_lt, and_parts, eq-eqb, ne_eqb, false≢true, false_from_ne_true, rules, All-contains, All-filter, All-push}
+use Rattle.fst_heads.proofs.Patches.{Grade, Place, HasOnePlaceEach, IsOpenNumber, Kind, Patch, Change, OpenGate, SealedGate, is_among, is_at, is_change_at, is_live, is_on, same_number, filter_in, in_filter, In, Contains-from_In, In-get_or, In-map, In-unmap, among_in, in_among}
+use Rattle.fst_heads.proofs.Words.{Pending, Sums, Standing, IsInside, Node, patches_in, at_number, linked_to, gains_names, is_pending, notified, seals, lands, launches, AllStand, is_ready_on, is_held_on, is_flying_on, ready_on, standing_of, entered, sent, arrived, NoneHeldBelow, is_hard_kind}
 use Rattle.fst_heads.proofs.{Added.{with_node, new_node, with_names}, AtNumber.{at_same, at_other}}
-use Rattle.fst_heads.proofs.CountsAs.{CountsAs, counts, count_cons, count_append, count_map, count_nothing, count_none, count_kept, standing_same, stands_as, stand_map, stand_set, off_place, off_as, like_as, self_as, rested_as, on_one}
+use Rattle.fst_heads.proofs.CountsAs.{CountsAs, StandsAs, counts, count_cons, count_append, count_map, count_nothing, count_none, count_kept, standing_same, none_held_map, stands_as, stand_as, stand_map, stand_set, off_place, off_held, off_as, like_as, self_as, rested_as, on_one}
 use Rattle.fst_heads.proofs.{Waiting.same_node, Indices.rising_back}
 use Rattle.fst_heads.proofs.Patches.place
 use Rattle.fst_heads.proofs.Words.pending
@@ -31,7 +31,7 @@ stand_sealed nodes numbers blocks g standings H gate S = stand_map (at_number g 
           let shut : Node = record x { patch = record x.patch { kind = SealedGate } } in
           let sealed_as = off_as b shut x refl off in
           let all = rested_as b shut in
-          rw (at_same g seals x same) (record { ready = all.ready ∙ sealed_as.ready; held = all.held ∙ sealed_as.held; flying = all.flying ∙ sealed_as.flying })
+          rw (at_same g seals x same) (record { ready = all.ready ∙ sealed_as.ready; held = all.held ∙ sealed_as.held; flying = all.flying ∙ sealed_as.flying; number = all.number })
       | inr ne ↦ rw (at_other g seals x ne) (self_as b x)
     ]
 
@@ -49,8 +49,10 @@ in_flight place.Flight on e = refl
 in_flight p on e = absurd (false≢true e)
 
 pub stand_landed : (nodes : List Node) (blocks b : ℕ) (standings : List Standing) (d : Standing) → b < blocks
-    → AllStand nodes blocks standings → AllStand (map (lands b) nodes) blocks (set standings b (record { ready = (get_or standings b d).ready; held = (get_or standings b d).held; flying = 0 }))
-stand_landed nodes blocks b standings d lt S = stand_set (map (lands b) nodes) nodes blocks b standings _ lt S own (λ c inside ne. stands_as (lands b) nodes c (λ x i. landed_other b c x ne))
+    → AllStand nodes blocks standings → AllStand (map (lands b) nodes) blocks (set standings b (arrived (get_or standings b d)))
+stand_landed nodes blocks b standings d lt S = stand_set (map (lands b) nodes) nodes blocks b standings _ lt S own
+    (none_held_map (lands b) nodes b _ (λ x i e. (sym (held_stays x) ∙ e, lands_number x)) (S.above b d lt))
+    (λ c inside ne. stands_as (lands b) nodes c (λ x i. landed_other b c x ne))
   where
     -- what flies is in memory neither before nor after
     ready_stays : (x : Node) → is_ready_on b (lands b x) ≡ is_ready_on b x
@@ -62,8 +64,11 @@ stand_landed nodes blocks b standings d lt S = stand_set (map (lands b) nodes) n
     none_flies : (x : Node) → is_flying_on b (lands b x) ≡ false
     none_flies x = elim (cases_Bool (is_flying_on b x)) [ inl e ↦ rw e refl | inr e ↦ rw e e ]
 
-    own : record { ready = (get_or standings b d).ready; held = (get_or standings b d).held; flying = 0 } ≡ standing_of (map (lands b) nodes) b
-    own = standing_same _ _ _ _ _ _
+    lands_number : (x : Node) → (lands b x).patch.number ≡ x.patch.number
+    lands_number x = elim (cases_Bool (is_flying_on b x)) [ inl e ↦ rw e refl | inr e ↦ rw e refl ]
+
+    own : arrived (get_or standings b d) ≡ standing_of (map (lands b) nodes) b (get_or standings b d).held_from
+    own = standing_same _ _ _ _ _ _ _
         (ap (λ (s : Standing). s.ready) (S.each b d lt) ∙ sym (count_map (is_ready_on b) (is_ready_on b) (lands b) nodes (λ x i. ready_stays x)))
         (ap (λ (s : Standing). s.held) (S.each b d lt) ∙ sym (count_map (is_held_on b) (is_held_on b) (lands b) nodes (λ x i. held_stays x)))
         (sym (count_map (is_flying_on b) (λ x. false) (lands b) nodes (λ x i. none_flies x) ∙ count_nothing (λ x. false) nodes (λ x i. refl)))
@@ -106,11 +111,16 @@ module _ (nodes : List Node) (rising : AllPairs (λ x y. x.patch.number < y.patc
   pub launched_other : (c : ℕ) (x : Node) → In nodes x → c ≢ b → CountsAs c (launches (ready_on b nodes) x) x
   launched_other c x i ne = grind (arith, cases_Bool, and_parts, on_one, goes, off_as, stays, self_as)
 
+launches_number : (row : List ℕ) (x : Node) → (launches row x).patch.number ≡ x.patch.number
+launches_number row x = elim (cases_Bool (is_among row x.patch.number)) [ inl e ↦ rw e refl | inr e ↦ rw e refl ]
+
 -- all that is ready of the block goes, and nothing else
 pub stand_launched : (nodes : List Node) (numbers blocks b : ℕ) (standings : List Standing) (d : Standing) → HasOnePlaceEach (patches_in nodes) numbers → b < blocks → (get_or standings b d).flying ≡ 0
     → AllStand nodes blocks standings
-    → AllStand (map (launches (ready_on b nodes)) nodes) blocks (set standings b (record { ready = 0; held = (get_or standings b d).held; flying = (get_or standings b d).ready }))
-stand_launched nodes numbers blocks b standings d H lt rest S = stand_set (map (launches (ready_on b nodes)) nodes) nodes blocks b standings _ lt S own (λ c inside ne. stands_as (launches (ready_on b nodes)) nodes c (λ x i. launched_other nodes rising b c x i ne))
+    → AllStand (map (launches (ready_on b nodes)) nodes) blocks (set standings b (sent (get_or standings b d)))
+stand_launched nodes numbers blocks b standings d H lt rest S = stand_set (map (launches (ready_on b nodes)) nodes) nodes blocks b standings _ lt S own
+    (none_held_map (launches (ready_on b nodes)) nodes b _ (λ x i e. (sym (held_as nodes rising b x i) ∙ e, launches_number (ready_on b nodes) x)) (S.above b d lt))
+    (λ c inside ne. stands_as (launches (ready_on b nodes)) nodes c (λ x i. launched_other nodes rising b c x i ne))
   where
     rising : AllPairs (λ x y. x.patch.number < y.patch.number) nodes
     rising = grind (arith, rising_in)
@@ -118,50 +128,124 @@ stand_launched nodes numbers blocks b standings d H lt rest S = stand_set (map (
     resting : (x : Node) → In nodes x → is_flying_on b x ≡ false
     resting x i = count_none (is_flying_on b) nodes (sym (ap (λ (s : Standing). s.flying) (S.each b d lt)) ∙ rest) x i
 
-    own : record { ready = 0; held = (get_or standings b d).held; flying = (get_or standings b d).ready } ≡ standing_of (map (launches (ready_on b nodes)) nodes) b
-    own = standing_same _ _ _ _ _ _
+    own : sent (get_or standings b d) ≡ standing_of (map (launches (ready_on b nodes)) nodes) b (get_or standings b d).held_from
+    own = standing_same _ _ _ _ _ _ _
         (sym (count_map (is_ready_on b) (λ x. false) (launches (ready_on b nodes)) nodes (λ x i. none_ready nodes rising b x i) ∙ count_nothing (λ x. false) nodes (λ x i. refl)))
         (ap (λ (s : Standing). s.held) (S.each b d lt) ∙ sym (count_map (is_held_on b) (is_held_on b) (launches (ready_on b nodes)) nodes (λ x i. held_as nodes rising b x i)))
         (ap (λ (s : Standing). s.ready) (S.each b d lt) ∙ sym (count_map (is_flying_on b) (is_ready_on b) (launches (ready_on b nodes)) nodes (λ x i. flies_as nodes rising b x i (resting x i))))
 
 -- what is dropped was on disk, and counts for no block
 pub stand_dropped : (nodes : List Node) (blocks : ℕ) (standings : List Standing) → AllStand nodes blocks standings → AllStand (filter (λ x. is_live x.patch) nodes) blocks standings
-stand_dropped nodes blocks standings S = search (rules, standing_same, count_kept)
+stand_dropped nodes blocks standings S = stand_as (filter (λ x. is_live x.patch) nodes) nodes blocks standings (λ b lt. record {
+  counted = λ from. search (rules, standing_same, count_kept);
+  above = λ from none. All-filter (λ x. is_live x.patch) (λ x. is_held_on b x ≡ true → from ≤ x.patch.number) nodes none;
+}) S
 
 -- a link keeps what a node counts as
 linked_as : (row : List ℕ) (n b : ℕ) (x : Node) → CountsAs b (linked_to row n x) x
-linked_as row n b x = elim (cases_Bool (is_among row x.patch.number)) [ inl e ↦ rw e (like_as b _ x refl refl refl) | inr e ↦ rw e (self_as b x) ]
+linked_as row n b x = elim (cases_Bool (is_among row x.patch.number)) [ inl e ↦ rw e (like_as b _ x refl refl refl refl) | inr e ↦ rw e (self_as b x) ]
 
 -- a count where there is a new node
 count_made : (t : Node → Bool) (nodes : List Node) (p : Patch) → ((x : Node) → t (linked_to p.dependencies p.number x) ≡ t x) → count_by t (with_node nodes p) ≡ count_by t nodes + cond (t (new_node nodes p)) 1 0
 count_made t nodes p same = grind (arith, count_cons, new_node, count_map, count_append)
 
-standing_made : (nodes : List Node) (p : Patch) (b : ℕ)
-    → standing_of (with_node nodes p) b
+standing_made : (nodes : List Node) (p : Patch) (b from : ℕ)
+    → standing_of (with_node nodes p) b from
     ≡ counts (count_by (is_ready_on b) nodes + cond (is_ready_on b (new_node nodes p)) 1 0) (count_by (is_held_on b) nodes + cond (is_held_on b (new_node nodes p)) 1 0)
-    (count_by (is_flying_on b) nodes + cond (is_flying_on b (new_node nodes p)) 1 0)
-standing_made nodes p b = grind (arith, standing_same, count_made, linked_as)
+    (count_by (is_flying_on b) nodes + cond (is_flying_on b (new_node nodes p)) 1 0) from
+standing_made nodes p b from = grind (arith, standing_same, count_made, linked_as)
+
+-- none with a lesser number is held with the new patch, where it has no lesser one
+none_held_made : (nodes : List Node) (p : Patch) (b from : ℕ) → (is_held_on b (new_node nodes p) ≡ true → from ≤ p.number) → NoneHeldBelow nodes b from → NoneHeldBelow (with_node nodes p) b from
+none_held_made nodes p b from new none = All-push (λ x. is_held_on b x ≡ true → from ≤ x.patch.number) (map (linked_to p.dependencies p.number) nodes) (new_node nodes p)
+    ((stands_as (linked_to p.dependencies p.number) nodes b (λ x i. linked_as p.dependencies p.number b x)).above from none) new
+
+none_more : (n : ℕ) (t : Bool) → t ≡ false → n + cond t 1 0 ≡ n
+none_more n t e = ap (λ u. n + cond u 1 0) e ∙ omega arith
 
 -- a new patch that is no change of the block
-made_off : (nodes : List Node) (p : Patch) (b : ℕ) → is_on b p.kind ≡ false → standing_of (with_node nodes p) b ≡ standing_of nodes b
-made_off nodes p b off = grind (arith, common_steps, standing_made, standing_same, off_place, false≢true)
+made_off : (nodes : List Node) (p : Patch) (b : ℕ) → is_on b p.kind ≡ false → StandsAs b (with_node nodes p) nodes
+made_off nodes p b off = record {
+  counted = λ from. standing_made nodes p b from ∙ standing_same _ _ _ _ _ _ from
+      (none_more _ _ (rw (off_place b place.Memory (new_node nodes p) off) refl))
+      (none_more _ _ (off_held b (new_node nodes p) off))
+      (none_more _ _ (off_place b place.Flight (new_node nodes p) off));
+  above = λ from none. none_held_made nodes p b from (λ held. absurd (false≢true (sym (off_held b (new_node nodes p) off) ∙ held))) none;
+}
 
 -- a new patch that is no change
 pub stand_made : (nodes : List Node) (blocks : ℕ) (standings : List Standing) (p : Patch) → ((b : ℕ) → is_on b p.kind ≡ false) → AllStand nodes blocks standings → AllStand (with_node nodes p) blocks standings
-stand_made nodes blocks standings p off S = record { long = S.long; each = λ b d lt. S.each b d lt ∙ sym (made_off nodes p b (off b)) }
+stand_made nodes blocks standings p off S = stand_as (with_node nodes p) nodes blocks standings (λ b lt. made_off nodes p b (off b)) S
 
 off_block : (b c : ℕ) (k : Kind) (at len : ℕ) (grade : Grade) → k ≡ Change b at len grade → c ≢ b → is_on c k ≡ false
 off_block b c k at len grade kind ne = ap (is_on c) kind ∙ ne_eqb b c (λ e. ne (sym e))
 
--- a new change
-pub stand_change : (nodes : List Node) (blocks : ℕ) (standings : List Standing) (p : Patch) (b at len : ℕ) (grade : Grade) (d : Standing) → p.kind ≡ Change b at len grade → p.place ≡ place.Memory → b < blocks
-    → AllStand nodes blocks standings
-    → AllStand (with_node nodes p) blocks (set standings b (entered (is_hard_kind p.kind) (is_pending (new_node nodes p).pending (pending.Block b)) (get_or standings b d)))
-stand_change nodes blocks standings p b at len grade d kind memory lt S =
-    stand_set (with_node nodes p) nodes blocks b standings _ lt S own (λ c inside ne. made_off nodes p c (off_block b c p.kind at len grade kind ne))
-  where
-    own : entered (is_hard_kind p.kind) (is_pending (new_node nodes p).pending (pending.Block b)) (get_or standings b d) ≡ standing_of (with_node nodes p) b
-    own = grind (arith, common_steps, standing_made, standing_same)
+-- how many more are ready and held with a new change
+entered_counts : (hard ready : Bool) (number : ℕ) (s : Standing)
+    → entered hard ready number s ≡ counts (s.ready + cond ready 1 0) (s.held + cond (hard && not ready) 1 0) s.flying (entered hard ready number s).held_from
+entered_counts true true number s = standing_same _ _ _ _ _ _ s.held_from refl (omega arith) refl
+entered_counts false true number s = standing_same _ _ _ _ _ _ s.held_from refl (omega arith) refl
+entered_counts true false number s = standing_same _ _ _ _ _ _ (entered true false number s).held_from (omega arith) refl refl
+entered_counts false false number s = standing_same _ _ _ _ _ _ s.held_from (omega arith) (omega arith) refl
+
+more_counted : (k n : ℕ) (t u : Bool) → k ≡ n → u ≡ t → k + cond t 1 0 ≡ n + cond u 1 0
+more_counted k n t u e same = rw (e, same) refl
+
+-- where a new patch has the greatest number
+module _ (nodes : List Node) (b : ℕ) (p : Patch) (s : Standing) (counted : s.held ≡ count_by (is_held_on b) nodes) (newest : All (λ x. x.patch.number < p.number) nodes) (low : NoneHeldBelow nodes b s.held_from) where
+  none_held : s.held ≡ 0 → NoneHeldBelow nodes b p.number
+  none_held none k d lt held = absurd (false≢true (sym (count_none (is_held_on b) nodes (sym counted ∙ none) _ (In-get_or nodes k d lt)) ∙ held))
+
+  some_held : s.held ≢ 0 → s.held_from ≤ p.number
+  some_held some = elim (cases_lt p.number s.held_from) [
+    | inl less ↦ absurd (some (counted ∙ count_nothing (is_held_on b) nodes (λ x i. false_from_ne_true (is_held_on b x) (λ held.
+        let c = Contains-from_In nodes x i in
+        let from = All-contains (λ x. is_held_on b x ≡ true → s.held_from ≤ x.patch.number) nodes x low c held in
+        let below = All-contains (λ x. x.patch.number < p.number) nodes x newest c in
+        omega (arith, from, below, less)))))
+    | inr le ↦ le
+  ]
+
+  -- what is held of the block with it has numbers from there on
+  entered_from : (hard ready : Bool) → is_held_on b (new_node nodes p) ≡ (hard && not ready) → NoneHeldBelow (with_node nodes p) b (entered hard ready p.number s).held_from
+  entered_from true true off = none_held_made nodes p b s.held_from (λ held. absurd (false≢true (sym off ∙ held))) low
+  entered_from false true off = none_held_made nodes p b s.held_from (λ held. absurd (false≢true (sym off ∙ held))) low
+  entered_from false false off = none_held_made nodes p b s.held_from (λ held. absurd (false≢true (sym off ∙ held))) low
+  entered_from true false on = elim (cases_eq s.held 0) [
+    | inl none ↦ rw (eq-eqb s.held 0 none) (none_held_made nodes p b p.number (λ held. omega arith) (none_held none))
+    | inr some ↦ rw (ne_eqb s.held 0 some) (none_held_made nodes p b s.held_from (λ held. some_held some) low)
+  ]
+
+-- a new change, with the greatest number
+module _ (nodes : List Node) (blocks : ℕ) (standings : List Standing) (p : Patch) (b at len : ℕ) (grade : Grade) (d : Standing) (kind : p.kind ≡ Change b at len grade) (memory : p.place ≡ place.Memory) (lt : b < blocks)
+    (newest : All (λ x. x.patch.number < p.number) nodes) (S : AllStand nodes blocks standings) where
+  abbrev s : Standing
+  s = get_or standings b d
+
+  abbrev hard : Bool
+  hard = is_hard_kind p.kind
+
+  abbrev ready : Bool
+  ready = is_pending (new_node nodes p).pending (pending.Block b)
+
+  there : is_change_at place.Memory b p ≡ true
+  there = ap (λ q. is_at q place.Memory && is_on b p.kind) memory ∙ (ap (is_on b) kind ∙ eq-eqb b b refl)
+
+  here : is_held_on b (new_node nodes p) ≡ (hard && not ready)
+  here = ap (λ t. t && hard && not ready) there
+
+  own : entered hard ready p.number s ≡ standing_of (with_node nodes p) b (entered hard ready p.number s).held_from
+  own = entered_counts hard ready p.number s
+      ∙ (standing_same _ _ _ _ _ _ _
+      (more_counted _ _ _ _ (ap (λ (s : Standing). s.ready) (S.each b d lt)) (ap (λ t. t && ready) there))
+      (more_counted _ _ _ _ (ap (λ (s : Standing). s.held) (S.each b d lt)) here)
+      (ap (λ (s : Standing). s.flying) (S.each b d lt) ∙ sym (none_more _ _ (ap (λ q. is_at q place.Flight && is_on b p.kind) memory)))
+      ∙ sym (standing_made nodes p b (entered hard ready p.number s).held_from))
+
+  pub stand_change : AllStand (with_node nodes p) blocks (set standings b (entered (is_hard_kind p.kind) (is_pending (new_node nodes p).pending (pending.Block b)) p.number (get_or standings b d)))
+  stand_change = stand_set (with_node nodes p) nodes blocks b standings _ lt S own
+      (entered_from nodes b p s (ap (λ (s : Standing). s.held) (S.each b d lt)) newest (S.above b d lt) hard ready here)
+      (λ c inside ne. made_off nodes p c (off_block b c p.kind at len grade kind ne))
 
 gained_as : (g b : ℕ) (names : List ℕ) (sums : Sums) (x : Node) → CountsAs b (at_number g (gains_names names sums) x) x
 gained_as g b names sums x = grind (arith, cases_eq, at_same, like_as, at_other, self_as)

@@ -1,5 +1,5 @@
 -- How each block stands.
-use Rattle.std.specs.Prelude.{◌≡◌, ◌<◌, ◌==◌, ◌&&◌, ◌↔◌, ◌+◌, ◌-◌, ℕ, Bool, true, false, not, List, map, filter, length, count_by, IsTrue, slice_index_or}
+use Rattle.std.specs.Prelude.{◌≡◌, ◌<◌, ◌≤◌, ◌==◌, ◌&&◌, ◌↔◌, ◌+◌, ◌-◌, ℕ, Bool, true, false, not, List, map, filter, length, count_by, All, IsTrue, slice_index_or, if◌then◌else◌}
 use Rattle.fst_types.specs.declared.place.Place.TheVariants as place
 use Rattle.fst_types.specs.{Patches.Patch, Tests.is_change_at, Writable.IsWritable}
 use Rattle.fst_heads.specs.declared.pending.Pending.TheVariants as pending
@@ -25,13 +25,18 @@ ready_on b nodes = map (λ x. x.patch.number) (filter (is_ready_on b) nodes)
 abbrev pub held_on : ℕ → List Node → List ℕ
 held_on b nodes = map (λ x. x.patch.number) (filter (is_held_on b) nodes)
 
--- the block has that many of each
-abbrev pub standing_of : List Node → ℕ → Standing
-standing_of nodes b = record { ready = count_by (is_ready_on b) nodes; held = count_by (is_held_on b) nodes; flying = count_by (is_flying_on b) nodes }
+-- the block has that many of each, and those that are held are looked for from that number on
+abbrev pub standing_of : List Node → ℕ → ℕ → Standing
+standing_of nodes b from = record { ready = count_by (is_ready_on b) nodes; held = count_by (is_held_on b) nodes; flying = count_by (is_flying_on b) nodes; held_from = from }
+
+-- of block b, none with a lesser number is held
+abbrev pub NoneHeldBelow : List Node → ℕ → ℕ → Type 0
+NoneHeldBelow nodes b from = All (λ x. IsTrue (is_held_on b x) → from ≤ x.patch.number) nodes
 
 pub record AllStand (nodes : List Node) (blocks : ℕ) (standings : List Standing) : Type 0 where
   pub long : length standings ≡ blocks
-  pub each : (b : ℕ) (d : Standing) → b < blocks → slice_index_or standings b d ≡ standing_of nodes b
+  pub each : (b : ℕ) (d : Standing) → b < blocks → slice_index_or standings b d ≡ standing_of nodes b (slice_index_or standings b d).held_from
+  pub above : (b : ℕ) (d : Standing) → b < blocks → NoneHeldBelow nodes b (slice_index_or standings b d).held_from
 
 -- the mark of a block
 abbrev pub may_be_written : Standing → Bool
@@ -50,8 +55,16 @@ abbrev pub released : Bool → Standing → Standing
 released true s = record s { ready = s.ready + 1; held = s.held - 1 }
 released false s = record s { ready = s.ready + 1 }
 
--- with a new change in memory, which is hard or not, and ready or not
-abbrev pub entered : Bool → Bool → Standing → Standing
-entered hard true s = record s { ready = s.ready + 1 }
-entered true false s = record s { held = s.held + 1 }
-entered false false s = s
+-- with a new change in memory with that number, which is hard or not, and ready or not
+abbrev pub entered : Bool → Bool → ℕ → Standing → Standing
+entered hard true number s = record s { ready = s.ready + 1 }
+entered true false number s = record s { held = s.held + 1; held_from = if s.held == 0 then number else s.held_from }
+entered false false number s = s
+
+-- with what was ready in flight
+abbrev pub sent : Standing → Standing
+sent s = record s { ready = 0; flying = s.ready }
+
+-- with nothing in flight any more
+abbrev pub arrived : Standing → Standing
+arrived s = record s { flying = 0 }

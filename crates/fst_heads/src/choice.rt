@@ -1,13 +1,13 @@
 //! Which changes of a block may be written, by the list of the block.
 
-ghost use Rattle.std.specs.Prelude.{◌<◌, ◌≤◌, ◌==◌, ◌∷◌, [], ℕ, List, ◌≡◌, ◌&&◌, length, IfOk, IfErr, IfSome, IfNone};
+ghost use Rattle.std.specs.Prelude.{◌<◌, ◌≤◌, ◌==◌, ◌∷◌, ◌++◌, [], ℕ, List, ◌≡◌, ◌&&◌, length, All, AllPairs, IfOk, IfErr, IfSome, IfNone};
 ghost use Rattle.std.specs.List.{list_any};
 ghost use Rattle.fst_types.specs.declared.fault.Fault.TheVariants as fault;
 ghost use Rattle.fst_heads.specs.Heads.{kind_of, patches_of};
 ghost use Rattle.fst_heads.specs.Names.{numbers_of};
 ghost use Rattle.fst_heads.specs.Lists.{entries_of, entries_on};
 ghost use Rattle.fst_heads.specs.Nodes.{node_of, nodes_of};
-ghost use Rattle.fst_heads.specs.Standings.{is_ready_on, is_held_on, held_on, ready_on};
+ghost use Rattle.fst_heads.specs.Standings.{NoneHeldBelow, is_ready_on, is_held_on, held_on, ready_on};
 ghost use Rattle.fst_heads.specs.Tests.{is_hard_kind};
 
 use crate::head::{Head, Kind};
@@ -15,6 +15,7 @@ use crate::heads::Heads;
 use crate::lists::Listed;
 use crate::pending::is_of_block;
 use crate::places::is_change_at;
+use crate::standing::Standing;
 use crate::turns::next_in_turn;
 use fst_types::{Fault, Grade, PatchNo, Place};
 use std::alloc::Global;
@@ -102,18 +103,29 @@ fn is_held_at(heads: &Heads, number: u32, block: u32) -> bool
     }
 }
 
+// What comes in the list before the number is left out.
+fn list_from(list: &[Listed], number: u32) -> &[Listed]
+    requires { AllPairs (λ x y. x.number < y.number) list.now }
+    ensures { (before : List Listed) × (list.now ≡ before ++ result.now) × All (λ x. x.number < number) before }
+{
+    let before = list.partition_point(|listed| listed.number < number);
+    &list[before..]
+}
+
 /// The least hard patch of the block in memory outside its writable set. The list has the changes of the block that are
-/// not on disk. No more hard ones than `held` wait for more than changes of the block in memory: they are looked for from
-/// both ends of the list, and where so many are found, no others are looked at.
-pub fn first_held(heads: &Heads, list: &[Listed], held: usize, block: u32) -> Option<PatchNo>
+/// not on disk. No more hard ones than the standing counts wait for more than changes of the block in memory, and none with
+/// a lesser number than it tells: they are looked for from both ends of the list from that number on, and where so many are
+/// found, no others are looked at.
+pub fn first_held(heads: &Heads, list: &[Listed], standing: Standing, block: u32) -> Option<PatchNo>
     requires listed { entries_of list.now ≡ entries_on block (patches_of heads.now.list.items) }
-    requires held { length (held_on block (nodes_of heads.now.list.items)) ≤ held }
+    requires held { length (held_on block (nodes_of heads.now.list.items)) ≤ standing.held }
+    requires above { NoneHeldBelow (nodes_of heads.now.list.items) block standing.held_from }
     ensures none { IfNone result (held_on block (nodes_of heads.now.list.items) ≡ []) }
     ensures least { IfSome result (λ no. (rest : List ℕ) × (held_on block (nodes_of heads.now.list.items) ≡ no.0 ∷ rest)) }
 {
-    let mut left = held;
+    let mut left = standing.held;
     let mut least = None;
-    let mut rest = list;
+    let mut rest = list_from(list, standing.held_from);
     let mut from_back = false;
     while left > 0 {
         let Some((listed, others)) = next_in_turn(rest, from_back) else {

@@ -7,7 +7,7 @@ ghost use Rattle.fst_heads.specs.Frames.{frames_of};
 ghost use Rattle.fst_heads.specs.Heads.{kind_of};
 ghost use Rattle.fst_heads.specs.Nodes.{Node, nodes_of, at_number};
 ghost use Rattle.fst_heads.specs.Spreading.{now, IsStale, recorded};
-ghost use Rattle.fst_heads.specs.Standings.{AllStand, NoneBelow, may_be_written, released, entered};
+ghost use Rattle.fst_heads.specs.Standings.{AllStand, NoneBelow, may_be_written, released, entered, sent, arrived};
 ghost use Rattle.fst_heads.specs.Tests.{is_hard_kind};
 
 use crate::cascade::pending_now;
@@ -19,12 +19,13 @@ use fst_types::{BlockNo, Place};
 use std::alloc::{AllocError, Global};
 
 /// How many changes of a block in memory have nothing pending but changes of the block in memory, how many hard ones in
-/// memory have more, and how many changes are in flight.
+/// memory have more, and how many changes are in flight. No hard one that has more has a number below `held_from`.
 #[derive(Clone, Copy)]
 pub struct Standing {
     pub ready: usize,
     pub held: usize,
     pub flying: usize,
+    pub held_from: u32,
 }
 
 impl Standing {
@@ -47,22 +48,32 @@ impl Standing {
         }
     }
 
-    /// A new change of the block in memory.
-    pub fn enter(&mut self, kind: Kind, is_ready: bool)
+    /// A new change of the block in memory, with the greatest number.
+    pub fn enter(&mut self, kind: Kind, is_ready: bool, number: u32)
         requires ready { self.old.ready < 18446744073709551615 }
         requires held { self.old.held < 18446744073709551615 }
-        ensures { self.new ≡ entered (is_hard_kind (kind_of kind)) is_ready self.old }
+        ensures { self.new ≡ entered (is_hard_kind (kind_of kind)) is_ready number self.old }
     {
         if is_ready {
             self.ready += 1;
         } else if is_hard(kind) {
+            if self.held == 0 {
+                self.held_from = number;
+            }
             self.held += 1;
         }
     }
 
+    /// The least hard change that waits for more has the number.
+    pub fn find_held(&mut self, number: u32)
+        ensures { self.new ≡ record self.old { held_from = number } }
+    {
+        self.held_from = number;
+    }
+
     /// What is ready is in flight.
     pub fn launch(&mut self)
-        ensures { self.new ≡ record { ready = 0; held = self.old.held; flying = self.old.ready } }
+        ensures { self.new ≡ sent self.old }
     {
         self.flying = self.ready;
         self.ready = 0;
@@ -70,7 +81,7 @@ impl Standing {
 
     /// What was in flight is on disk.
     pub fn land(&mut self)
-        ensures { self.new ≡ record { ready = self.old.ready; held = self.old.held; flying = 0 } }
+        ensures { self.new ≡ arrived self.old }
     {
         self.flying = 0;
     }
@@ -82,16 +93,6 @@ pub fn ready_count(standings: &[Standing], block: u32) -> usize
 {
     match standings.get(block as usize) {
         Some(standing) => standing.ready,
-        None => 0,
-    }
-}
-
-/// How many hard changes of the block in memory wait for more.
-pub fn held_count(standings: &[Standing], block: u32) -> usize
-    ensures { (d : Standing) → block < length standings.now → result ≡ (slice_index_or standings.now block d).held }
-{
-    match standings.get(block as usize) {
-        Some(standing) => standing.held,
         None => 0,
     }
 }
@@ -130,7 +131,8 @@ pub fn empty_standings(alloc: Global, blocks: u32) -> Result<Vec<Standing>, Allo
     vec![in alloc; Standing {
         ready: 0,
         held: 0,
-        flying: 0
+        flying: 0,
+        held_from: 0
     }; blocks as usize]
 }
 
@@ -169,7 +171,7 @@ pub(crate) fn record_at(
 
 /// Nothing of the block is in flight any more.
 pub fn land_at(standings: &mut Vec<Standing>, block: u32)
-    ensures inside { (d : Standing) → block < vec_len standings.old → standings.new.items ≡ slice_set standings.old.items block (record { ready = (slice_index_or standings.old.items block d).ready; held = (slice_index_or standings.old.items block d).held; flying = 0 }) }
+    ensures inside { (d : Standing) → block < vec_len standings.old → standings.new.items ≡ slice_set standings.old.items block (arrived (slice_index_or standings.old.items block d)) }
     ensures outside { vec_len standings.old ≤ block → standings.new.items ≡ standings.old.items }
     ensures len { vec_len standings.new ≡ vec_len standings.old }
 {

@@ -23,7 +23,7 @@ pub shelves : (nodes : List Node) (blocks : ℕ) (lists slice : List (Vec Listed
 shelves nodes blocks lists slice A e = ap length e ∙ (sym (length-map lists (λ v. entries_of v.items)) ∙ A.long)
 
 abbrev pub none_yet : Standing
-none_yet = record { ready = 0; held = 0; flying = 0 }
+none_yet = record { ready = 0; held = 0; flying = 0; held_from = 0 }
 
 module _ (heads : List Head) (numbers blocks : ℕ) (marks : List _) (lists : List (List Entry)) (standings : List Standing) (queue : List ℕ) (cap b : ℕ)
     (K : Keeps (patches_of heads) numbers blocks marks) (T : Tallies (nodes_of heads) numbers blocks lists standings queue cap) where

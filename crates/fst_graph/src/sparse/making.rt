@@ -64,10 +64,11 @@ fn enlist(
     requires room { HasRoomInList (map (λ l. vec_len l) lists.old.items) (map (λ l. vec_capacity l) lists.old.items) block }
     requires few { (own : Counts) → own ≡ slice_index_or standings.old.items block own → (own.ready < 18446744073709551615) × (own.held < 18446744073709551615) }
     ensures listed { map (λ l. entries_of l.items) lists.new.items ≡ slice_set (map (λ l. entries_of l.items) lists.old.items) block (slice_index_or (map (λ l. entries_of l.items) lists.old.items) block [] ++ entry_of listed ∷ []) }
-    ensures entered { (d : Counts) → standings.new.items ≡ slice_set standings.old.items block (entered (is_hard_kind (kind_of kind)) (is_pending pending (pending_as.Block block)) (slice_index_or standings.old.items block d)) }
+    ensures entered { (d : Counts) → standings.new.items ≡ slice_set standings.old.items block (entered (is_hard_kind (kind_of kind)) (is_pending pending (pending_as.Block block)) listed.number (slice_index_or standings.old.items block d)) }
 {
     lists[block as usize].push_reserved(listed);
-    standings[block as usize].enter(kind, is_of_block(pending, block));
+    let is_ready = is_of_block(pending, block);
+    standings[block as usize].enter(kind, is_ready, listed.number);
 }
 
 impl Sparse {

@@ -1,15 +1,21 @@
 use Rattle.fst_heads.proofs.{Basics.{◌≤◌, ◌∙◌, ◌∷◌, ◌++◌, [], length, cond, refl, sym, ap, subst, arith, append-nil, append_assoc, length-append}, Words.{is_held_on}}
-use Rattle.fst_heads.proofs.Passing.{passing, passing_start, passing_skipped, passing_front, passing_back, held_listed, first_found}
+use Rattle.fst_heads.proofs.Passing.{passing, passing_before, passing_start, rising_list, passing_skipped, passing_front, passing_back, held_listed, first_found}
 use Rattle.fst_heads.proofs.choice.first_held.Goals as goal
 use Rattle.fst_heads.proofs.choice.first_held.Goals.{then-is_held_at+else-not-from_back, else-is_held_at}
+
+pub list_from-rest-requires : goal.list_from-rest-requires
+list_from-rest-requires c = rising_list c.args.block c.args.heads.now.list.items c.args.list.now c.args.heads.now.rising c.requires.listed
 
 pub loop-left-init : goal.loop-left-init
 loop-left-init c =
     let b = c.args.block in
     let heads = c.args.heads.now.list.items in
     let list = c.args.list.now in
-    let whole = passing_start b (is_held_on b) (held_listed b) heads list c.args.heads.now.rising c.requires.listed in
-    record { found = ([], append-nil (passing (is_held_on b) heads list) ∙ whole, refl); few = omega (arith, ap length whole, c.requires.held) }
+    let rest = c.list_from-rest.result.now in
+    let parts = c.list_from-rest.ensures in
+    let left_out = passing_before (is_held_on b) heads c.args.standing.held_from c.requires.above parts.0 rest parts.2 in
+    let whole = sym left_out ∙ (ap (passing (is_held_on b) heads) (sym parts.1) ∙ passing_start b (is_held_on b) (held_listed b) heads list c.args.heads.now.rising c.requires.listed) in
+    record { found = ([], append-nil (passing (is_held_on b) heads rest) ∙ whole, refl); few = omega (arith, ap length whole, c.requires.held) }
 
 pub returns-then-not-from_back-clause-least : goal.returns-then-not-from_back-clause-least
 returns-then-not-from_back-clause-least c =

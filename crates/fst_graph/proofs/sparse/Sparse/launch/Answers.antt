@@ -7,7 +7,7 @@ use Rattle.fst_types.proofs.Issuing.{alike_launched}
 use Rattle.fst_heads.proofs.{AtNumber.patches_in_nodes, Carried.risen_spread}
 use Rattle.fst_levels.proofs.{Resting.none_yet, Seen.lawful_nodes}
 use Rattle.fst_graph.proofs.{Flagged.{flags_map, flags_of, flags_spread, remembered_as, remembered_still}, Remembered.remembered_map, RememberedRows.launched_number, Risen.{beside_risen, landed_risen}}
-use Rattle.fst_graph.proofs.{Borne.inside_nodes, Kept.{covered_moved, keeps_launched, none_below_launched}, Launches.{some_chosen, first_named, none_first, block_found, block_some, chosen_ready, tallies_chosen}}
+use Rattle.fst_graph.proofs.{Borne.inside_nodes, Kept.{covered_moved, keeps_launched, none_below_again, none_ready}, Launches.{some_chosen, first_named, none_first, block_found, block_some, chosen_ready, tallies_chosen}}
 use Rattle.fst_graph.proofs.{Marking.writable_rests, NeedsNow.needing_launched, Ranks.leveled_moved, Sound.{as_many_standings, view_gone}, sparse.Sparse.launch.Goals.{After-block_of, After-launch-arg-2-1, After-launch}}
 use Rattle.fst_graph.proofs.RememberedLooks as looks
 use Rattle.fst_graph.proofs.sparse.Sparse.launch.Goals as goal
@@ -119,7 +119,7 @@ invariant_of-self-2 c =
         leveled = rw new (leveled_moved (alike_launched (patches_of heads) n b chosen K.lawful W C) c.self.invariant.0.leveled);
         needing = rw new (needing_launched {cleared = c.clear.new.self} (patches_of heads) n b b chosen K.lawful kept.lawful W C refl c.clear.ensures.long c.clear.ensures.others c.clear.ensures.cleared c.clear.ensures.ways c.self.invariant.0.needing);
         given = rw c.clear.ensures.ways c.self.invariant.0.given;
-        none_below = rw c.launch-2.ensures (none_below_launched c.self.inside.standings.items c.self.inside.unmarked b _ _ c.self.invariant.0.none_below);
+        none_below = rw c.launch-2.ensures (none_below_again c.self.inside.standings.items c.self.inside.unmarked b _ c.self.invariant.0.none_below (λ lt. none_ready c.index_mut.result.now));
         prepared = rw c.let_go.ensures tt;
       },
       rw c.let_go.ensures

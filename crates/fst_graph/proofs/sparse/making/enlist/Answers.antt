@@ -22,4 +22,4 @@ pub returns-clause-entered : goal.returns-clause-entered
 returns-clause-entered c d =
     let own = c.index_mut-2.result.now in
     let there : own ≡ get_or c.args.standings.now.items c.args.block d = c.index_mut-2.ensures.value ∙ any_default c.args.standings.now.items c.args.block own d c.requires.standing in
-    rw (c.enter.ensures, c.is_of_block.ensures, ← there) refl
+    rw (c.enter.ensures, c.is_of_block-is_ready.ensures, ← there) refl
