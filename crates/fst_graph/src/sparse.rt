@@ -332,7 +332,7 @@ impl Sparse {
         let Some(no) = first_held(&self.columns.heads, list, standing, block.0) else {
             return None;
         };
-        self.standings[block.0 as usize].find_held(no.0);
+        self.standings[block.0 as usize].note_held(no.0);
         Some(no)
     }
 

@@ -55,7 +55,7 @@ abbrev pub released : Bool → Standing → Standing
 released true s = record s { ready = s.ready + 1; held = s.held - 1 }
 released false s = record s { ready = s.ready + 1 }
 
--- with a new change in memory with that number, which is hard or not, and ready or not
+-- with a new change in memory that has the number, the greatest, and is hard or not, and ready or not
 abbrev pub entered : Bool → Bool → ℕ → Standing → Standing
 entered hard true number s = record s { ready = s.ready + 1 }
 entered true false number s = record s { held = s.held + 1; held_from = if s.held == 0 then number else s.held_from }

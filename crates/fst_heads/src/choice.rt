@@ -103,7 +103,7 @@ fn is_held_at(heads: &Heads, number: u32, block: u32) -> bool
     }
 }
 
-// What comes in the list before the number is left out.
+// The list from the number on, which is looked up by halves.
 fn list_from(list: &[Listed], number: u32) -> &[Listed]
     requires { AllPairs (λ x y. x.number < y.number) list.now }
     ensures { (before : List Listed) × (list.now ≡ before ++ result.now) × All (λ x. x.number < number) before }

@@ -1,4 +1,6 @@
-//! How each block stands: the mark that says whether it may be written, as counts that follow each change.
+//! How each block stands: the mark that says whether it may be written, as counts that follow each change; and before which
+//! number none of its changes is held. One that is held no more never is again, and a new one has the greatest number, so
+//! that number only rises.
 
 ghost use Rattle.std.specs.Prelude.{◌≡◌, ◌<◌, ◌≤◌, [], ℕ, true, false, length, map, Contains, IfOk, MatchOption, slice_index_or, slice_set, vec_len, vec_capacity};
 ghost use Rattle.fst_types.specs.Patches.{Change};
@@ -64,8 +66,8 @@ impl Standing {
         }
     }
 
-    /// The least hard change that waits for more has the number.
-    pub fn find_held(&mut self, number: u32)
+    /// The least hard change that waits for more has the number: from then on none before it is looked at.
+    pub fn note_held(&mut self, number: u32)
         ensures { self.new ≡ record self.old { held_from = number } }
     {
         self.held_from = number;

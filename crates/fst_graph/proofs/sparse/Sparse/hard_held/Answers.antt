@@ -69,13 +69,13 @@ invariant_of-self-2 c =
       record {
         keeps = S.keeps;
         beside = S.beside;
-        tallies = tallies_found (nodes_of s.columns.heads.list.items) s.numbers s.blocks b no _ s.standings.items _ _ own c.find_held.new.self (lawful_nodes s.columns.heads.list.items s.numbers S.keeps.lawful) S.tallies lt there c.find_held.ensures c.in-Some-first_held.ensures.least;
+        tallies = tallies_found (nodes_of s.columns.heads.list.items) s.numbers s.blocks b no _ s.standings.items _ _ own c.note_held.new.self (lawful_nodes s.columns.heads.list.items s.numbers S.keeps.lawful) S.tallies lt there c.note_held.ensures c.in-Some-first_held.ensures.least;
         covered = S.covered;
         along = S.along;
         leveled = S.leveled;
         needing = S.needing;
         given = S.given;
-        none_below = none_below_again s.standings.items s.unmarked b c.find_held.new.self S.none_below (λ low. ap may_be_written c.find_held.ensures ∙ (ap may_be_written there ∙ S.none_below b own low));
+        none_below = none_below_again s.standings.items s.unmarked b c.note_held.new.self S.none_below (λ low. ap may_be_written c.note_held.ensures ∙ (ap may_be_written there ∙ S.none_below b own low));
         prepared = tt;
       },
       unspared c.self.invariant.1,
