@@ -1,6 +1,6 @@
 -- The walk along the list of a block for those of its patches that pass a test.
 use Rattle.fst_heads.proofs.Basics.{All, AllPairs, AllPairs-filter, All-contains, All-head, All-tail, Any-from_list_any, eqb-true, false_from_ne_true, subst, common_steps, cond, IfNone, IfSome, Option, None, Some, ◌≤◌, ◌++◌, reverse, reverse_onto, map-append, nil_from_length, ◌≡◌, ◌==◌, ◌&&◌, ℕ, Bool, true, List, [], ◌∷◌, map, filter, length, refl, sym, ap, ◌∙◌, inr, list_any, cases_Bool, and_parts, arith, inl, suc, ◌<◌, false, append-nil, append_assoc, length-append, map_push}
-use Rattle.fst_heads.proofs.Patches.{PatchNo, In, Contains-from_In}
+use Rattle.fst_heads.proofs.Patches.{PatchNo, In, Contains-from_In, In-from_Contains, In-map, In-unmap, filter_in, in_filter}
 use Rattle.fst_heads.proofs.Words.{numbers_of, is_held_on, Head, Listed, IsRising, patches_of, entries_of, entries_on, entry, entry_of, is_live_on, Node, node_of, nodes_of, is_ready_on}
 use Rattle.fst_heads.proofs.{Listing.{any_index, numbers_on, rising_patches}, Indices.{any_default, rising_back, rising_map}}
 
@@ -39,6 +39,34 @@ passing_before t heads from above (l ∷ ls) rest less =
         let same = eqb-true a.1.patch.number n k.0 in
         let le = All-contains (λ x. t x ≡ true → from ≤ x.patch.number) (nodes_of heads) a.1 above (a.0, a.2, a.3) k.1 in
         omega (arith, lt, same, le))
+
+-- of numbers that rise, the least is the first
+least_first : (ns : List ℕ) (n : ℕ) → AllPairs (λ k m. k < m) ns → In ns n → ((m : ℕ) → In ns m → n ≤ m) → (rest : List ℕ) × (ns ≡ n ∷ rest)
+least_first [] n rising i least = absurd i
+least_first (m ∷ ms) n rising (inl e) least = (ms, ap (λ k. k ∷ ms) e)
+least_first (m ∷ ms) n rising (inr i) least =
+    let c = Contains-from_In ms n i in
+    let above = rising 0 (suc c.0) n (omega arith) (omega (arith, c.1)) in
+    absurd (omega (arith, above, c.2, least m (inl refl)))
+
+-- where one that passes has the number from which on alone some do, it is the first
+pub passing_least : (t : Node → Bool) (heads : List Head) (from : ℕ) → IsRising heads → All (λ x. t x ≡ true → from ≤ x.patch.number) (nodes_of heads)
+    → passes_at t (nodes_of heads) from ≡ true → (rest : List ℕ) × (map (λ x. x.patch.number) (filter t (nodes_of heads)) ≡ from ∷ rest)
+passing_least t heads from rising above here =
+    let nodes = nodes_of heads in
+    let number : Node → ℕ = λ x. x.patch.number in
+    let a = Any-from_list_any (λ x. (x.patch.number == from) && t x) nodes here in
+    let k = and_parts (a.1.patch.number == from) (t a.1) a.4 in
+    let passes = in_filter t nodes a.1 (In-from_Contains nodes a.1 (a.0, a.2, a.3)) k.1 in
+    least_first (map number (filter t nodes)) from
+    (rising_map number (filter t nodes) number (λ n. n) (λ x. refl)
+    (AllPairs-filter (λ x y. x.patch.number < y.patch.number) t nodes (rising_map node_of heads (λ h. h.number) number (λ h. refl) rising)))
+    (In-map number (filter t nodes) a.1 from passes (eqb-true a.1.patch.number from k.0))
+    (λ m i.
+    let r = In-unmap number (filter t nodes) m i in
+    let was = filter_in t nodes r.0 r.1 in
+    let le = All-contains (λ x. t x ≡ true → from ≤ x.patch.number) nodes r.0 above (Contains-from_In nodes r.0 was.0) was.1 in
+    omega (arith, le, r.2))
 
 -- the numbers of a list rise
 pub rising_list : (b : ℕ) (heads : List Head) (list : List Listed) → IsRising heads → entries_of list ≡ entries_on b (patches_of heads) → AllPairs (λ x y. x.number < y.number) list

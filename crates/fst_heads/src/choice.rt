@@ -114,8 +114,8 @@ fn list_from(list: &[Listed], number: u32) -> &[Listed]
 
 /// The least hard patch of the block in memory outside its writable set. The list has the changes of the block that are
 /// not on disk. No more hard ones than the standing counts wait for more than changes of the block in memory, and none with
-/// a lesser number than it tells: they are looked for from both ends of the list from that number on, and where so many are
-/// found, no others are looked at.
+/// a lesser number than it tells. Where the one with that number is held no more, they are looked for from both ends of the
+/// list from there on, and where so many are found, no others are looked at.
 pub fn first_held(heads: &Heads, list: &[Listed], standing: Standing, block: u32) -> Option<PatchNo>
     requires listed { entries_of list.now ≡ entries_on block (patches_of heads.now.list.items) }
     requires held { length (held_on block (nodes_of heads.now.list.items)) ≤ standing.held }
@@ -123,6 +123,12 @@ pub fn first_held(heads: &Heads, list: &[Listed], standing: Standing, block: u32
     ensures none { IfNone result (held_on block (nodes_of heads.now.list.items) ≡ []) }
     ensures least { IfSome result (λ no. (rest : List ℕ) × (held_on block (nodes_of heads.now.list.items) ≡ no.0 ∷ rest)) }
 {
+    if standing.held == 0 {
+        return None;
+    }
+    if is_held_at(heads, standing.held_from, block) {
+        return Some(PatchNo(standing.held_from));
+    }
     let mut left = standing.held;
     let mut least = None;
     let mut rest = list_from(list, standing.held_from);

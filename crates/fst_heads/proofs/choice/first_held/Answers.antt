@@ -1,7 +1,11 @@
 use Rattle.fst_heads.proofs.{Basics.{◌≤◌, ◌∙◌, ◌∷◌, ◌++◌, [], length, cond, refl, sym, ap, subst, arith, append-nil, append_assoc, length-append}, Words.{is_held_on}}
-use Rattle.fst_heads.proofs.Passing.{passing, passing_before, passing_start, rising_list, passing_skipped, passing_front, passing_back, held_listed, first_found}
+use Rattle.fst_heads.proofs.Passing.{passing, passing_before, passing_least, passing_start, rising_list, passing_skipped, passing_front, passing_back, held_listed, first_found}
 use Rattle.fst_heads.proofs.choice.first_held.Goals as goal
-use Rattle.fst_heads.proofs.choice.first_held.Goals.{then-is_held_at+else-not-from_back, else-is_held_at}
+use Rattle.fst_heads.proofs.choice.first_held.Goals.{then-is_held_at-2+else-not-from_back, else-is_held_at-2}
+
+pub returns-then-is_held_at-clause-least : goal.returns-then-is_held_at-clause-least
+returns-then-is_held_at-clause-least c =
+    passing_least (is_held_on c.args.block) c.args.heads.now.list.items c.args.standing.held_from c.args.heads.now.rising c.requires.above (sym c.is_held_at.ensures ∙ c.if-is_held_at.true)
 
 pub list_from-rest-requires : goal.list_from-rest-requires
 list_from-rest-requires c = rising_list c.args.block c.args.heads.now.list.items c.args.list.now c.args.heads.now.rising c.requires.listed
@@ -25,7 +29,7 @@ returns-then-not-from_back-clause-least c =
     let others = passing held heads c.in-Some.others.now in
     let later = c.loop-left.invariant.found.0 in
     let next = passing_front held heads c.loop-left.rest.now c.in-Some.others.now c.in-Some.listed (c.in-Some.ensures.front c.if-not-from_back.true) in
-    (others ++ later, sym c.loop-left.invariant.found.1 ∙ ap (λ ns. ns ++ later) (next ∙ ap (λ t. cond t (n ∷ others) others) (sym c.if-is_held_at.ensures)))
+    (others ++ later, sym c.loop-left.invariant.found.1 ∙ ap (λ ns. ns ++ later) (next ∙ ap (λ t. cond t (n ∷ others) others) (sym c.if-is_held_at-2.ensures)))
 
 pub loop-left-preserved : goal.loop-left-preserved
 loop-left-preserved c =
@@ -37,15 +41,15 @@ loop-left-preserved c =
     let others = passing held heads c.in-Some.others.now in
     let before = c.loop-left.invariant in
     let later = before.found.0 in
-    elim c.if-is_held_at.branch [
-      | then-is_held_at+else-not-from_back w ↦
-          let more = passing_back held heads rest c.in-Some.others.now c.in-Some.listed (ends.back w.if-not-from_back.false) ∙ ap (λ t. others ++ cond t (n ∷ []) []) (sym w.if-is_held_at.ensures) in
+    elim c.if-is_held_at-2.branch [
+      | then-is_held_at-2+else-not-from_back w ↦
+          let more = passing_back held heads rest c.in-Some.others.now c.in-Some.listed (ends.back w.if-not-from_back.false) ∙ ap (λ t. others ++ cond t (n ∷ []) []) (sym w.if-is_held_at-2.ensures) in
           rw w.least-is record {
             found = (n ∷ later, sym (append_assoc others (n ∷ []) later) ∙ (ap (λ ns. ns ++ later) (sym more) ∙ before.found.1), (later, refl));
             few = omega (arith, ap length more, length-append others (n ∷ []), before.few, w.left-is);
           }
-      | else-is_held_at w ↦
-          let same = passing_skipped held heads rest c.in-Some.others.now c.in-Some.listed c.loop-left.from_back ends.front ends.back (sym w.if-is_held_at.ensures) in
+      | else-is_held_at-2 w ↦
+          let same = passing_skipped held heads rest c.in-Some.others.now c.in-Some.listed c.loop-left.from_back ends.front ends.back (sym w.if-is_held_at-2.ensures) in
           rw w.least-is record { found = (later, ap (λ ns. ns ++ later) (sym same) ∙ before.found.1, before.found.2); few = omega (arith, ap length same, before.few, w.left-is) }
     ]
 
