@@ -151,6 +151,37 @@ def many_needs():
     return made
 
 
+def behind_gate(made, blocks, count):
+    """So many soft changes of these blocks, which were made behind a gate that is sealed then."""
+    gate = made.gate()
+    soft = [made.patch(made.dice.choice(blocks), made.dice.randrange(4096), [gate]) for _ in range(count)]
+    made.ask("seal", gate=gate)
+    return soft
+
+
+def block_of_soft_needs():
+    """A block that needs 32 others, then 12,000 soft changes; and 16,000 changes of the 32, each after any change of it."""
+    made = Script(128)
+    below = [made.patch(10 + at, 0) for at in range(32)]
+    soft = behind_gate(made, range(64, 128), 12_000)
+    over = [made.patch(0, made.dice.randrange(4096), [it]) for it in below + soft]
+    for _ in range(16_000):
+        made.patch(10 + made.dice.randrange(32), made.dice.randrange(4096), [made.dice.choice(over)])
+    return made
+
+
+def block_beyond_soft_needs():
+    """As that, but of 2,000 others, which a third block needs, one of 200 changes of which the block needs."""
+    made = Script(4096)
+    below = [made.patch(1000 + at, 0) for at in range(2000)]
+    between = [made.patch(7, made.dice.randrange(4096), [it]) for it in below][:200]
+    soft = behind_gate(made, range(64, 128), 12_000)
+    over = [made.patch(0, made.dice.randrange(4096), [it]) for it in between + soft]
+    for _ in range(16_000):
+        made.patch(1000 + made.dice.randrange(2000), made.dice.randrange(4096), [made.dice.choice(over)])
+    return made
+
+
 def superblock_waits():
     """A patch of one block, one of the superblock after it, and a write of the first; what is on disk is forgotten at times."""
     made = Script(4096)
@@ -214,8 +245,8 @@ def fan_in_flight():
 
 SHAPES = [
     ring_back, gates_in_a_chain, two_families, three_blocks, groups_in_a_chain, chains_of_groups, deep_below, tower,
-    behind_a_gate, gate_each, deep_over, many_needs, superblock_waits, fan_of_own, fan_of_others,
-    fan_in_flight,
+    behind_a_gate, gate_each, deep_over, many_needs, block_of_soft_needs, block_beyond_soft_needs,
+    superblock_waits, fan_of_own, fan_of_others, fan_in_flight,
 ]
 
 

@@ -49,10 +49,12 @@ fn expected(first: u32, last: u32, heads: usize, number: u32) -> usize {
 fn index_by_guess(heads: &[Head], number: u32) -> Option<usize>
     ensures { IfSome result (λ index. HasIndex heads.now number index) }
 {
-    let mut low = 0;
-    let mut high = heads.len();
-    let mut first = heads.first()?.number;
     let mut last = heads.last()?.number;
+    // It stands no further from the last than its number is from the last number.
+    let back = last.saturating_sub(number) as usize;
+    let mut low = heads.len().saturating_sub(1).saturating_sub(back);
+    let mut high = heads.len();
+    let mut first = heads.get(low)?.number;
     for _ in 0..GUESSES {
         if high <= low || number < first || last < number {
             return None;

@@ -1,16 +1,16 @@
 -- What a block needs grows by one number and by a row.
-use Rattle.std.proofs.Common.{◌≡◌, ◌≢◌, ◌⊎◌, ◌++◌, ◌∷◌, ◌∙◌, [], ℕ, List, map, length, Contains, refl, sym, subst, inl, inr}
+use Rattle.std.proofs.Common.{◌≡◌, ◌≢◌, ◌⊎◌, ◌++◌, ◌∷◌, ◌∙◌, [], ℕ, List, length, Contains, refl, sym, subst, inl, inr}
 use Rattle.std.proofs.lemmas.List.Elements.{Contains-push_cases, Contains-push, Contains-append_left}
 use Rattle.fst_types.specs.{Patches.Patch}
 use Rattle.fst_types.specs.declared.grade.Grade.{Grade}
 use Rattle.fst_types.specs.declared.grade.Grade.TheVariants as grade
 use Rattle.std.specs.Global.{Vec}
-use Rattle.fst_levels.specs.{Needing.{IsAtOrUnder, IsBesides, IsPut, IsSpared, needs_of}, declared.needs.Need.Need}
+use Rattle.fst_levels.specs.{Needing.{IsAtOrUnder, IsBesides, IsPut, IsSpared, needs_of}}
 use Rattle.fst_types.proofs.SmallStates.{only_in}
 
 -- the numbers of what a block needs
-abbrev pub numbers_in : Vec Need → List ℕ
-numbers_in needs = map (λ (q : Need). q.number) needs.items
+abbrev pub numbers_in : Vec ℕ → List ℕ
+numbers_in needs = needs.items
 
 -- what is spared beside a row is so beside a longer one
 pub spared_longer : {patches : List Patch} {b q : ℕ} {row longer : List ℕ} → ((n : ℕ) → Contains row n → Contains longer n) → IsSpared patches b row q → IsSpared patches b longer q

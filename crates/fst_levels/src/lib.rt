@@ -6,9 +6,9 @@
 //! Each patch has a level and each block a floor, so that no way down rises, and what lies below the floor of a block leads
 //! nowhere (`levels`, over `ranks`, their list, in which `directory` tells where a number stands). Each patch has two ancestors
 //! that it depends on, a near one and a far one, so that some dozens of steps tell that it depends on another (`ancestors`).
-//! Of each block it is kept what its hard changes in memory need, where a way that crosses the block goes on, with some of what
-//! lies below that (`below_row`); and of the ways back that were found each with its end, since it is there until that is on
-//! disk (`needs`).
+//! Of each block it is kept what its hard changes in memory need, where a way that crosses the block goes on (`needs`), but for
+//! what such a way comes to anyway (`spared`), with some of what lies below that (`below_row`), and which need is the newest of
+//! each other block (`latest`); and of the ways back that were found each with its end, since it is there until that is on disk.
 //!
 //! A look asks one patch or one row (`shortcuts`): is it hard, does it wait for an open gate or for its own block alone, does
 //! it lie below the floor, or below a hard change of the block (`under_hard`), and is a way back known of it (`known`)? Such a
@@ -28,11 +28,13 @@ mod below_row;
 mod directory;
 pub mod flags;
 pub mod known;
+mod latest;
 pub mod levels;
 pub mod needs;
 mod ranks;
 pub mod shortcuts;
 pub mod sight;
 pub mod sink;
+mod spared;
 pub mod under_hard;
 pub mod walk;

@@ -7,34 +7,25 @@
 //! seen to lead from a soft change back to its block, each with its end. What is on a way waits for its end, so that it
 //! stays there until that is on disk, and a new change over such a change of its block is soft too.
 
-ghost use Rattle.std.specs.Prelude.{vec_capacity, vec_len, ◌≡◌, ◌≢◌, ◌≤◌, ◌<◌, ◌+◌, ◌⊎◌, ◌∷◌, [], ℕ, IsTrue, length, map, Contains, IfOk, IfSome, OnOk};
+ghost use Rattle.std.specs.Prelude.{vec_capacity, vec_len, ◌≡◌, ◌≢◌, ◌≤◌, ◌<◌, ◌+◌, ◌⊎◌, ◌∷◌, [], ℕ, length, map, Contains, IfOk, IfSome, OnOk};
 ghost use Rattle.fst_types.specs.declared.grade.Grade.TheVariants as grade;
 ghost use Rattle.fst_types.specs.Facts.{IsOnDiskWithAll};
-ghost use Rattle.fst_heads.specs.Grading.{IsHardNumber};
 ghost use Rattle.fst_heads.specs.Heads.{patches_of};
 ghost use Rattle.fst_heads.specs.Nodes.{nodes_of, AreSettled};
-ghost use Rattle.fst_levels.specs.declared.needs.Need.{Need};
 ghost use Rattle.fst_levels.specs.declared.needs.Way.{Way};
-ghost use Rattle.fst_levels.specs.Needing.{IsAtOrUnder, IsBesides, IsKnown, IsNeeding, IsNoted, IsPut, IsSpared, IsStoodFor, StaysOn, needs_of};
+ghost use Rattle.fst_levels.specs.Needing.{IsAtOrUnder, IsBesides, IsKnown, IsNeeding, IsNoted, IsPut, needs_of};
 
 use crate::below_row::{BELOW, gather_below};
-use crate::shortcuts::{is_hard_in, is_hard_number, is_own};
+use crate::latest::Latest;
+use crate::shortcuts::is_hard_in;
+use crate::spared::is_told;
 use fst_heads::head::Kind;
 use fst_heads::heads::Heads;
-use fst_heads::row::{is_live_number, pending_at};
+use fst_heads::row::is_live_number;
 use fst_heads::test::is_live;
 use fst_types::Grade;
 use std::alloc::{AllocError, Global};
 use std::marker::Model;
-
-/// A patch that a block needs, and if it is a change the block that it is of, and whether it was a hard one in memory, so that
-/// one that stands for others, and one of a block that is looked for, are found without a look at heads.
-#[derive(Clone, Copy)]
-pub struct Need {
-    pub number: u32,
-    pub of: Option<u16>,
-    pub hard: bool,
-}
 
 /// A way back, from the soft change with the number to the change of its block at its end.
 #[derive(Clone, Copy)]
@@ -43,12 +34,14 @@ pub struct Way {
     pub end: u32,
 }
 
-/// What each block needs. Of one block there is room for so many more. `ways` has the known ways, as the numbers of their
-/// changes rise; `below` has what was met below a row last, and a place for sixteen. It takes a list for each block, 12 bytes
-/// for each need and 8 for each way.
+/// What each block needs. Of one block there is room for so many more. `latest` tells which need is the newest of each other
+/// block; `ways` has the known ways, as the numbers of their changes rise; `below` has what was met below a row last, and a
+/// place for sixteen. It takes two lists for each block, 4 bytes for each need, 16 for each block that one needs and 8 for
+/// each way.
 #[derive(Drop)]
 pub struct Needs {
-    lists: Vec<Vec<Need>>,
+    lists: Vec<Vec<u32>>,
+    latest: Latest,
     block: u32,
     room: usize,
     ways: Vec<Way>,
@@ -58,132 +51,38 @@ pub struct Needs {
 impl Model for Needs {
     ghost use Rattle.std.specs.Prelude.{vec_len, vec_capacity, ◌≤◌, ◌+◌, map, slice_index_or};
     ghost use Rattle.fst_levels.specs.Needing.{Needing};
-    ghost use Rattle.fst_levels.specs.declared.needs.Need.{Need};
 
     ghost Value = { Needing };
 
-    ghost view = { λ n. record { lists = map (λ l. map (λ (q : Need). q.number) l.items) n.lists.items; block = n.block; room = n.room; ways = n.ways.items } };
+    ghost view = { λ n. record { lists = map (λ l. l.items) n.lists.items; block = n.block; room = n.room; ways = n.ways.items } };
 
     ghost invariant = { λ n. slice_index_or (map (λ l. vec_len l) n.lists.items) n.block 0 + n.room ≤ slice_index_or (map (λ l. vec_capacity l) n.lists.items) n.block 0 };
 }
 
-// At how many of the needs one is looked for that stands for another: where none of these does, one more is kept.
-const LOOKS: usize = 1024;
-
-// At how many of the newest needs one is looked for before it joins, so that it is seldom there twice.
-const NEWEST: usize = 64;
-
-// The place of the newest of the needs that was kept as a change of the block, a hard one if that is asked, among so many.
-fn newest_of(needs: &[Need], block: u32, hard: bool, most: usize) -> Option<usize>
-    ensures { IfSome result (λ at. at < length needs.now) }
-{
-    let Ok(of) = u16::try_from(block) else {
-        return None;
-    };
-    for back in 0..needs.len().min(most) {
-        let at = needs.len() - 1 - back;
-        let need = needs[at];
-        if need.of == Some(of) && (need.hard || !hard) {
-            return Some(at);
-        }
-    }
-    None
-}
-
-// Whether the newest of the needs that was kept as a hard change of the block is one in memory. Hard changes of a block are
-// written together, so where it is not none before it is.
-fn has_hard(heads: &Heads, needs: &[Need], block: u32) -> bool
-    ensures { IsTrue result → (n : ℕ) × Contains (map (λ (q : Need). q.number) needs.now) n × IsHardNumber (patches_of heads.now.list.items) block n }
-{
-    let Some(at) = newest_of(needs, block, true, LOOKS) else {
-        return false;
-    };
-    is_hard_number(heads, block, needs[at].number)
-}
-
-// The patch with the number as a need.
-fn need_of(heads: &Heads, number: u32) -> Need
-    ensures { result.number ≡ number }
-{
-    let mut need = Need {
-        number,
-        of: None,
-        hard: false,
-    };
-    if let Some(index) = heads.index_of(number) {
-        let head = &heads.list[index];
-        if let Kind::Change(_, block, _) = head.kind {
-            need.of = Some(block);
-            need.hard = is_hard_in(head, u32::from(block));
-        }
-    }
-    need
-}
-
-// Whether the patch with the number is a hard change in memory for which one of the needs stands, or of that block itself.
-fn is_stood_for(heads: &Heads, needs: &[Need], block: u32, number: u32) -> bool
-    ensures { IsTrue result → IsStoodFor (patches_of heads.now.list.items) block (map (λ (q : Need). q.number) needs.now) number }
-{
+// The patch with the number joins the needs of the block at that place.
+fn note_at(latest: &mut Latest, heads: &Heads, block: u32, at: usize, number: u32) {
     let Some(index) = heads.index_of(number) else {
-        return false;
+        return;
     };
     let head = &heads.list[index];
-    let Kind::Change(_, of, _) = head.kind else {
-        return false;
-    };
-    let of = of as u32;
-    if !is_hard_in(head, of) {
-        return false;
+    if let Kind::Change(_, of, _) = head.kind {
+        latest.note(block, of, at, is_hard_in(head, u32::from(of)));
     }
-    of == block || has_hard(heads, needs, of)
 }
 
-// Whether the patch with the number is on disk, or nothing but changes of the block is pending of it. Once that is so it stays
-// so.
-fn stays_on(heads: &Heads, block: u32, number: u32) -> bool
-    requires disk { IsOnDiskWithAll (patches_of heads.now.list.items) }
-    requires settled { (blocks : ℕ) × AreSettled (nodes_of heads.now.list.items) blocks }
-    ensures { IsTrue result → StaysOn (patches_of heads.now.list.items) block number }
-{
-    is_own(pending_at(heads, number), block)
-}
-
-// Whether a walk that crosses the block to these needs need not go on to the patch with the number besides.
-fn is_spared(heads: &Heads, needs: &[Need], block: u32, number: u32) -> bool
-    requires disk { IsOnDiskWithAll (patches_of heads.now.list.items) }
-    requires settled { (blocks : ℕ) × AreSettled (nodes_of heads.now.list.items) blocks }
-    ensures { IsTrue result → IsSpared (patches_of heads.now.list.items) block (map (λ (q : Need). q.number) needs.now) number }
-{
-    stays_on(heads, block, number) || is_stood_for(heads, needs, block, number)
-}
-
-// Whether the patch with the number is among the newest of the needs.
-fn is_kept(needs: &[Need], number: u32) -> bool
-    ensures { IsTrue result → Contains (map (λ (q : Need). q.number) needs.now) number }
-{
-    for back in 0..needs.len().min(NEWEST) {
-        let at = needs.len() - 1 - back;
-        if needs[at].number == number {
-            return true;
-        }
+// Whether the need at that place is not on disk.
+fn is_live_at(heads: &Heads, needs: &[u32], at: Option<usize>) -> bool {
+    match at {
+        Some(at) if at < needs.len() => is_live_number(heads, needs[at]),
+        _ => false,
     }
-    false
-}
-
-// Whether it need not join the needs of the block: it is there, or a walk need not go on to it besides.
-fn is_told(heads: &Heads, needs: &[Need], block: u32, number: u32) -> bool
-    requires disk { IsOnDiskWithAll (patches_of heads.now.list.items) }
-    requires settled { (blocks : ℕ) × AreSettled (nodes_of heads.now.list.items) blocks }
-    ensures { IsTrue result → Contains (map (λ (q : Need). q.number) needs.now) number ⊎ IsSpared (patches_of heads.now.list.items) block (map (λ (q : Need). q.number) needs.now) number }
-{
-    is_kept(needs, number) || is_spared(heads, needs, block, number)
 }
 
 // The patch with the number joins what the block needs, if it is a change of another block that is not on disk, none of that
 // block is there, and there is a place.
-fn put_first(list: &mut Vec<Need>, heads: &Heads, block: u32, number: u32)
-    ensures kept { (n : ℕ) → Contains (map (λ (q : Need). q.number) list.old.items) n → Contains (map (λ (q : Need). q.number) list.new.items) n }
-    ensures only { (n : ℕ) → Contains (map (λ (q : Need). q.number) list.new.items) n → Contains (map (λ (q : Need). q.number) list.old.items) n ⊎ (n ≡ number) }
+fn put_first(list: &mut Vec<u32>, latest: &mut Latest, heads: &Heads, block: u32, number: u32)
+    ensures kept { (n : ℕ) → Contains list.old.items n → Contains list.new.items n }
+    ensures only { (n : ℕ) → Contains list.new.items n → Contains list.old.items n ⊎ (n ≡ number) }
     ensures fits { vec_len list.old ≤ vec_capacity list.old → vec_len list.new ≤ vec_capacity list.new }
 {
     let Some(index) = heads.index_of(number) else {
@@ -197,20 +96,20 @@ fn put_first(list: &mut Vec<Need>, heads: &Heads, block: u32, number: u32)
     if of == block || !is_live(head.place) {
         return;
     }
-    if newest_of(list, of, false, NEWEST).is_none() && list.len() < list.capacity() {
-        let need = need_of(heads, number);
-        list.push_reserved(need);
+    if !is_live_at(heads, list, latest.of(block, of)) && list.len() < list.capacity() {
+        note_at(latest, heads, block, list.len(), number);
+        list.push_reserved(number);
     }
 }
 
 // Each of those joins so.
-fn put_firsts(list: &mut Vec<Need>, heads: &Heads, block: u32, numbers: &[u32])
-    ensures kept { (n : ℕ) → Contains (map (λ (q : Need). q.number) list.old.items) n → Contains (map (λ (q : Need). q.number) list.new.items) n }
-    ensures only { (n : ℕ) → Contains (map (λ (q : Need). q.number) list.new.items) n → Contains (map (λ (q : Need). q.number) list.old.items) n ⊎ Contains numbers.now n }
+fn put_firsts(list: &mut Vec<u32>, latest: &mut Latest, heads: &Heads, block: u32, numbers: &[u32])
+    ensures kept { (n : ℕ) → Contains list.old.items n → Contains list.new.items n }
+    ensures only { (n : ℕ) → Contains list.new.items n → Contains list.old.items n ⊎ Contains numbers.now n }
     ensures fits { vec_len list.old ≤ vec_capacity list.old → vec_len list.new ≤ vec_capacity list.new }
 {
     for number in numbers {
-        put_first(list, heads, block, *number);
+        put_first(list, latest, heads, block, *number);
     }
 }
 
@@ -226,6 +125,7 @@ impl Needs {
         }
         Ok(Needs {
             lists,
+            latest: Latest::new(alloc, blocks)?,
             block: 0,
             room: 0,
             ways: Vec::new(alloc),
@@ -234,21 +134,52 @@ impl Needs {
     }
 
     /// What the block needs.
-    pub fn of(&self, block: u32) -> &[Need]
+    pub fn of(&self, block: u32) -> &[u32]
         requires { block < length self.now.lists }
-        ensures { map (λ (q : Need). q.number) result.now ≡ needs_of self.now.lists block }
+        ensures { result.now ≡ needs_of self.now.lists block }
     {
         self.lists[block as usize].as_slice()
     }
 
-    /// What the block was last found to need as a change of the other block, among its newest 1,024 needs.
+    /// What the block was last found to need as a change of the other block.
     pub fn newest_on(&self, block: u32, on: u32) -> Option<u32>
         requires { block < length self.now.lists }
         ensures { IfSome result (Contains (needs_of self.now.lists block)) }
     {
+        let at = self.latest.of(block, on)?;
         let needs = self.of(block);
-        let at = newest_of(needs, on, false, LOOKS)?;
-        Some(needs[at].number)
+        if at < needs.len() {
+            Some(needs[at])
+        } else {
+            None
+        }
+    }
+
+    /// How many patches the block needs.
+    pub fn count(&self, block: u32) -> usize {
+        match self.lists.get(block as usize) {
+            Some(list) => list.len(),
+            None => 0,
+        }
+    }
+
+    /// How many other blocks the block is told to need.
+    pub fn blocks(&self, block: u32) -> usize {
+        self.latest.blocks(block)
+    }
+
+    /// What the block was last found to need as a change of that one of them.
+    pub fn newest_at(&self, block: u32, turn: usize) -> Option<u32>
+        requires { block < length self.now.lists }
+        ensures { IfSome result (Contains (needs_of self.now.lists block)) }
+    {
+        let at = self.latest.at(block, turn)?;
+        let needs = self.of(block);
+        if at < needs.len() {
+            Some(needs[at])
+        } else {
+            None
+        }
     }
 
     // Room for one way more, if there is memory. Where none is left, ways whose end is on disk are dropped, and room is made
@@ -276,6 +207,10 @@ impl Needs {
     {
         // A place for what is below, if there is one, is asked for besides.
         self.lists[block as usize].reserve(more.saturating_add(BELOW))?;
+        // Where there is no room to tell of a need, it is not told.
+        let _ = self
+            .latest
+            .reserve(block, more.saturating_add(BELOW).min(self.lists.len()));
         self.block = block;
         self.room = more;
         self.reserve_way(heads);
@@ -294,9 +229,9 @@ impl Needs {
         ensures ways { self.new.ways ≡ self.old.ways }
     {
         let list = &mut self.lists[self.block as usize];
-        if !is_told(heads, list, self.block, number) {
-            let need = need_of(heads, number);
-            list.push_reserved(need);
+        if !is_told(heads, list, &self.latest, self.block, number) {
+            note_at(&mut self.latest, heads, self.block, list.len(), number);
+            list.push_reserved(number);
             self.room -= 1;
         }
     }
@@ -311,6 +246,7 @@ impl Needs {
         gather_below(heads, &mut self.below, row);
         put_firsts(
             &mut self.lists[self.block as usize],
+            &mut self.latest,
             heads,
             self.block,
             self.below.as_slice(),
@@ -389,5 +325,6 @@ impl Needs {
         ensures ways { self.new.ways ≡ self.old.ways }
     {
         self.lists[block as usize].clear();
+        self.latest.clear(block);
     }
 }

@@ -1,7 +1,7 @@
 //! The ranks of the heads and the floors of the blocks, which the levels keep (`levels`): finding a rank by its number, raising
 //! and lowering one, halving all, and dropping those of heads that are dropped.
 
-ghost use Rattle.std.specs.Prelude.{vec_capacity, ◌≡◌, ◌≢◌, ◌<◌, ℕ, length, map, filter, All, AllPairs, IsTrue, IfSome, IfNone, slice_index_or};
+ghost use Rattle.std.specs.Prelude.{vec_capacity, ◌≡◌, ◌≢◌, ◌<◌, ℕ, length, map, filter, All, IsTrue, IfSome, IfNone, slice_index_or};
 ghost use Rattle.fst_types.specs.Patches.{IsOn};
 ghost use Rattle.fst_heads.specs.Heads.{patch_of, patches_of};
 ghost use Rattle.fst_heads.specs.Reaching.{IsHardIn};

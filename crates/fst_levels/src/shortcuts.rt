@@ -2,9 +2,7 @@
 //! where none of this does: a change behind a gate, a chain on one block and a chain over a few blocks need none.
 
 ghost use Rattle.std.specs.Prelude.{◌≡◌, ◌⊎◌, ◌≤◌, ◌<◌, ◌↔◌, ◌&&◌, ◌∷◌, [], ℕ, List, IsTrue, IfSome, Contains, length};
-ghost use Rattle.fst_types.specs.Closure.{IsAcyclic};
 ghost use Rattle.fst_types.specs.Dependencies.{DirectlyOn};
-ghost use Rattle.fst_types.specs.Facts.{IsOnDiskWithAll};
 ghost use Rattle.fst_types.specs.declared.place.Place.TheVariants as place;
 ghost use Rattle.fst_types.specs.Gates.{IsOpenNumber};
 ghost use Rattle.fst_types.specs.Tests.{is_change_at};
@@ -15,7 +13,7 @@ ghost use Rattle.fst_heads.specs.Indices.{PassesAt};
 ghost use Rattle.fst_heads.specs.Tests.{is_hard_kind};
 ghost use Rattle.fst_heads.specs.Grading.{HasUnder, IsHardNumber, LeadsNowhere};
 ghost use Rattle.fst_levels.specs.Sights.{Sees};
-ghost use Rattle.fst_heads.specs.Nodes.{nodes_of, pending_in, AreSettled};
+ghost use Rattle.fst_heads.specs.Nodes.{nodes_of, pending_in};
 ghost use Rattle.fst_heads.specs.Pendings.{IsOf};
 
 use crate::sight::Sight;

@@ -10,7 +10,7 @@
 ghost use Rattle.std.specs.Prelude.{◌≡◌, ◌≤◌, ◌<◌, ℕ, length, Contains, IfSome, IfNone, slice_index_or};
 ghost use Rattle.fst_heads.specs.declared.test.Test.TheVariants as test;
 ghost use Rattle.fst_heads.specs.Grading.{LeadsNowhere};
-ghost use Rattle.fst_heads.specs.Heads.{IsRising, patches_of};
+ghost use Rattle.fst_heads.specs.Heads.{patches_of};
 ghost use Rattle.fst_heads.specs.Indices.{PassesAt};
 ghost use Rattle.fst_walks.specs.BothEnds.{ComesTo, IsAwayFrom, IsOver, ShowsBlockUnder, StepsHigh};
 ghost use Rattle.fst_walks.specs.Descending.{Visited, Visits};
@@ -23,8 +23,8 @@ ghost use Rattle.fst_levels.specs.Walks.{numbers_met};
 use crate::block_walk::BlockWalk;
 use crate::first_away::{FEW, visit_first_away};
 use crate::graded::{Graded, hard_after, soft};
+use crate::skim::needs_many;
 use crate::way_down::{any_across, change_below, step_down};
-use fst_heads::head::Head;
 use fst_heads::test::{Test, passes};
 use fst_levels::sight::Sight;
 use fst_levels::walk::Walk;
@@ -86,7 +86,8 @@ fn turn(
 
 // Takes steps down, through what is no lower than `least`, until a change of the block was met, which it answers, or the
 // walk is at its end, where it answers that there is none. Of each patch that was met it asks at once whether its block needs
-// one of the block, so that the way is found before all that lies about was visited. It gives up once it has looked at more patches than `most`.
+// one of the block, so that the way is found before all that lies about was visited. It gives up once it has looked at more
+// patches than `most`, or comes to a block that needs many.
 fn descend(
     sight: &Sight<'_>,
     down: &mut BlockWalk,
@@ -114,6 +115,9 @@ fn descend(
         let below = change_below(sight, &down.walk, at, least, block);
         if below.is_some() {
             return Some(below);
+        }
+        if needs_many(sight, &down.walk, at) {
+            return None;
         }
         let (met, looked) = turn(sight, down, block, at, least);
         if met.is_some() {

@@ -23,7 +23,6 @@ use crate::graded::{Graded, hard_after, soft};
 use crate::trace::trace;
 use crate::way_down::step_down;
 use crate::way_up::{step_up, visit_low_changes};
-use fst_heads::head::Head;
 use fst_levels::sight::Sight;
 use fst_levels::walk::Walk;
 

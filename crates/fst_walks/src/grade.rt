@@ -20,6 +20,7 @@ use crate::both_ends::grade_between;
 use crate::ends::Ends;
 use crate::graded::{Graded, hard, soft};
 use crate::other_gates::is_blocked;
+use crate::skim::grade_skimmed;
 use fst_levels::ancestors::leads_to_block;
 use fst_levels::known::leads_over_known;
 use fst_levels::shortcuts::{is_clean, stays_below, waits_for_own_block};
@@ -55,6 +56,9 @@ fn grade_by_ways(sight: &Sight<'_>, ends: &mut Ends, block: u32, row: &[u32]) ->
         return soft(Some(end));
     }
     if let Some(told) = grade_below(sight, &mut ends.down, block, row) {
+        return told;
+    }
+    if let Some(told) = grade_skimmed(sight, &mut ends.down, block, row) {
         return told;
     }
     grade_between(sight, ends, block, row)

@@ -3,8 +3,8 @@
 //! Two questions need them. *Is a new change hard?* A block is written only with all its hard changes, so a change may be hard
 //! only where nothing that it depends on can come to wait for its block. Mostly a look tells (`grade` has them in order): at
 //! levels, at ancestors, at ways back that are known. Or the change comes after the same as an earlier change of the block, and
-//! is graded as that was (`before`). Else a way back is looked for down alone for a while (`below`), then from both ends at
-//! once (`both_ends`): up from the changes of the block (`way_up`), and down (`way_down`) from the first changes of other
+//! is graded as that was (`before`). Else a way back is looked for down alone for a while (`below`), then over the newest of
+//! what blocks need alone (`skim`), then from both ends at once (`both_ends`): up from the changes of the block (`way_up`), and down (`way_down`) from the first changes of other
 //! blocks at or below what the new change depends on (`first_away`), which goes on from a block to what its hard changes need.
 //! Where the two meet, the end of the way is traced (`trace`). Where a new hard change would stand over the floor of its block,
 //! what has to go up with it is looked for too (`lift`). *May a gate gain these names, and may a group have this change?* Where
@@ -34,6 +34,7 @@ pub mod graded;
 pub mod lift;
 mod other_gates;
 pub mod overlap_cycle;
+mod skim;
 mod starts;
 mod trace;
 mod way_down;

@@ -4,10 +4,10 @@
 
 ghost use Rattle.std.specs.Prelude.{◌≡◌, ◌↔◌, ℕ, Some, length, IsTrue};
 ghost use Rattle.fst_heads.specs.Grading.{HasUnder, IsOpenBut};
-ghost use Rattle.fst_heads.specs.Heads.{IsRising, patches_of};
+ghost use Rattle.fst_heads.specs.Heads.{patches_of};
 ghost use Rattle.fst_heads.specs.Nodes.{nodes_of, pending_in};
 ghost use Rattle.fst_walks.specs.Descending.{IsLedFrom, Visited};
-ghost use Rattle.fst_walks.specs.Searching.{IsNextHeld, TellsGates};
+ghost use Rattle.fst_walks.specs.Searching.{IsNextHeld};
 ghost use Rattle.fst_levels.specs.Sights.{Sees};
 ghost use Rattle.fst_levels.specs.Walks.{numbers_met};
 

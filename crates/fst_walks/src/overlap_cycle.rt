@@ -5,8 +5,7 @@
 ghost use Rattle.std.specs.Prelude.{◌≡◌, ◌⊎◌, ◌<◌, ◌↔◌, ℕ, IsTrue, length};
 ghost use Rattle.fst_types.specs.Dependencies.{DependsOn};
 ghost use Rattle.fst_types.specs.Gates.{IsOpenNumber};
-ghost use Rattle.fst_heads.specs.Heads.{IsRising, patches_of};
-ghost use Rattle.fst_heads.specs.Nodes.{AreLinked, nodes_of};
+ghost use Rattle.fst_heads.specs.Heads.{patches_of};
 ghost use Rattle.fst_heads.specs.Rows.{IsTouched};
 ghost use Rattle.fst_walks.specs.Searching.{AreOver, TouchedReaches};
 ghost use Rattle.fst_levels.specs.Sights.{Sees};

@@ -3,13 +3,12 @@
 
 ghost use Rattle.std.specs.Prelude.{◌≡◌, Contains};
 ghost use Rattle.fst_heads.specs.declared.pending.Pending.TheVariants as pending;
-ghost use Rattle.fst_heads.specs.Heads.{IsRising, patches_of};
+ghost use Rattle.fst_heads.specs.Heads.{patches_of};
 ghost use Rattle.fst_heads.specs.Lists.{entries_of};
 ghost use Rattle.fst_heads.specs.Names.{numbers_of};
 ghost use Rattle.fst_heads.specs.Nodes.{nodes_of, pending_in};
 ghost use Rattle.fst_heads.specs.Rows.{IsTouched};
 ghost use Rattle.fst_walks.specs.Descending.{Visited, Visits};
-ghost use Rattle.fst_walks.specs.Searching.{TellsGates};
 ghost use Rattle.fst_walks.specs.Starting.{IsSharing, IsStart, numbers_told};
 ghost use Rattle.fst_levels.specs.Sights.{Sees};
 ghost use Rattle.fst_levels.specs.Walks.{numbers_met};

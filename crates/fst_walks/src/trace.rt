@@ -46,7 +46,7 @@ fn met_need(sight: &Sight<'_>, up: &Walk, block: u32, most: usize) -> Option<usi
     let needs = sight.needs.of(block);
     let few = &needs[needs.len().saturating_sub(most)..];
     for need in few.iter().rev() {
-        let index = met_index(sight, up, need.number);
+        let index = met_index(sight, up, *need);
         if index.is_some() {
             return index;
         }

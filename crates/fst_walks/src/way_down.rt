@@ -7,7 +7,7 @@
 ghost use Rattle.std.specs.Prelude.{◌≡◌, ◌<◌, ◌≤◌, ◌↔◌, ℕ, IfSome, IsTrue, length, slice_index_or, Contains};
 ghost use Rattle.fst_types.specs.Dependencies.{IsLiveNumber};
 ghost use Rattle.fst_heads.specs.Grading.{IsHardNumber};
-ghost use Rattle.fst_heads.specs.Heads.{IsRising, patches_of};
+ghost use Rattle.fst_heads.specs.Heads.{patches_of};
 ghost use Rattle.fst_heads.specs.declared.test.Test.TheVariants as test;
 ghost use Rattle.fst_heads.specs.Indices.{HasIndex, PassesAt};
 ghost use Rattle.fst_walks.specs.BothEnds.{CrossesDown, IsHigh, IsHighNeed, ShowsBlockUnder, StepsBelow, StepsHigh};
@@ -17,7 +17,7 @@ ghost use Rattle.fst_levels.specs.Needing.{needs_of};
 ghost use Rattle.fst_levels.specs.Sights.{Sees};
 ghost use Rattle.fst_levels.specs.Walks.{numbers_met};
 
-use fst_heads::head::{Head, Kind};
+use fst_heads::head::Kind;
 use fst_heads::test::{Test, is_live};
 use fst_levels::shortcuts::{is_hard_in, newest_few, passes_at};
 use fst_levels::sight::Sight;
@@ -28,9 +28,9 @@ const SHORT: usize = 64;
 
 const NEWEST: usize = 8;
 
-// Visits the patch with the number, unless it is on disk, lower than `least` or was visited before. It looks at the head
-// only where that is high enough and was not visited: most are too low or were, and heads are far larger than ranks.
-fn visit_high(sight: &Sight<'_>, walk: &mut Walk, number: u32, least: u32)
+/// Visits the patch with the number, unless it is on disk, lower than `least` or was visited before. It looks at the head
+/// only where that is high enough and was not visited: most are too low or were, and heads are far larger than ranks.
+pub(crate) fn visit_high(sight: &Sight<'_>, walk: &mut Walk, number: u32, least: u32)
     requires sees { Sees sight.now }
     requires visited { Visited sight.now.heads.now.list.items walk.old }
     ensures visited { Visited sight.now.heads.now.list.items walk.new }
@@ -110,7 +110,7 @@ fn visit_high_needs(sight: &Sight<'_>, walk: &mut Walk, block: u32, least: u32) 
     }
     let needs = sight.needs.of(block);
     for need in needs {
-        visit_high(sight, walk, need.number, least);
+        visit_high(sight, walk, *need, least);
     }
     needs.len()
 }

@@ -20,7 +20,7 @@ returns-then-is_within c =
     let index = index_at heads s c.requires.inside in
     let hard = hard_here heads c.args.sight.now.heads.now.rising n s d index b (sym (c.is_hard_in.ensures ∙ ap (λ h. is_change_at place.Memory b (patch_of h) && is_hard_kind (kind_of h.kind)) c.index-head.ensures) ∙ c.if-is_hard_in.true) in
     told_hard patches b row (LeadsNowhere patches b row) c.hard.result c.hard.ensures.grade c.hard.ensures.end
-    (hard_as heads c.args.sight.now.heads.now.rising c.requires.sees.hard b n row c.as_slice-other.result.now hard (row_direct heads c.args.sight.now.heads.now.rising n s d index c.as_slice-other.result.now (c.as_slice-other.ensures ∙ ap (λ h. h.dependencies.items) c.index-head.ensures)) (c.is_within.ensures c.if-is_within.true))
+    (hard_as heads c.args.sight.now.heads.now.rising c.requires.sees.hard b c.requires.sees.disk n row c.as_slice-other.result.now hard (row_direct heads c.args.sight.now.heads.now.rising n s d index c.as_slice-other.result.now (c.as_slice-other.ensures ∙ ap (λ h. h.dependencies.items) c.index-head.ensures)) (c.is_within.ensures c.if-is_within.true))
 
 pub returns-then-is_within-2 : goal.returns-then-is_within-2
 returns-then-is_within-2 c =

@@ -1,9 +1,8 @@
-use Rattle.std.proofs.Common.{◌∙◌, [], map, length, ap, arith}
+use Rattle.std.proofs.Common.{◌∙◌, [], length, ap, arith}
 use Rattle.std.proofs.lemmas.List.{length-map}
 use Rattle.fst_levels.specs.Needing.{needs_of}
 use Rattle.fst_levels.proofs.OneOfMany.{told_here, told_beside, room_left}
 use Rattle.fst_levels.proofs.PutMore.{numbers_in}
-use Rattle.fst_levels.specs.declared.needs.Need.{Need}
 use Rattle.fst_levels.proofs.needs.Needs.clear.Goals as goal
 
 pub invariant_of-self : goal.invariant_of-self
@@ -17,4 +16,4 @@ returns-clause-others c k other =
 
 pub returns-clause-cleared : goal.returns-clause-cleared
 returns-clause-cleared c =
-    told_here numbers_in c.self.inside.lists.items c.args.block c.clear.new.self [] (omega (arith, c.requires, ap (λ v. length v.lists) c.self.view_is, length-map c.self.inside.lists.items numbers_in)) ∙ ap (map (λ (q : Need). q.number)) c.clear.ensures.items
+    told_here numbers_in c.self.inside.lists.items c.args.block c.clear.new.self [] (omega (arith, c.requires, ap (λ v. length v.lists) c.self.view_is, length-map c.self.inside.lists.items numbers_in)) ∙ c.clear.ensures.items

@@ -1,7 +1,7 @@
-use Rattle.std.proofs.{Common.{◌∙◌, ◌<◌, Contains, map, length, ap, subst, arith}, Math.Seq.map-set_same, lemmas.List.length-map}
+use Rattle.std.proofs.{Common.{◌∙◌, ◌<◌, Contains, length, ap, subst, arith}, Math.Seq.map-set_same, lemmas.List.length-map}
 use Rattle.fst_levels.proofs.OneOfMany.{told_here, room_left}
 use Rattle.fst_levels.proofs.PutMore.{numbers_in}
-use Rattle.fst_levels.specs.{Needing.Needing, declared.needs.Need.Need}
+use Rattle.fst_levels.specs.Needing.{Needing}
 use Rattle.fst_levels.proofs.needs.Needs.reserve.Goals as goal
 
 pub invariant_of-self : goal.invariant_of-self
@@ -11,7 +11,7 @@ invariant_of-self c =
 
 pub returns-in_err-reserve-clause-lists : goal.returns-in_err-reserve-clause-lists
 returns-in_err-reserve-clause-lists c =
-    map-set_same numbers_in c.self.inside.lists.items c.args.block c.reserve.new.self c.index_mut.result.now (ap (map (λ (q : Need). q.number)) c.reserve.ensures.items ∙ ap numbers_in c.index_mut.ensures.value) ∙ ap (λ v. v.lists) c.self.view_is
+    map-set_same numbers_in c.self.inside.lists.items c.args.block c.reserve.new.self c.index_mut.result.now (c.reserve.ensures.items ∙ ap numbers_in c.index_mut.ensures.value) ∙ ap (λ v. v.lists) c.self.view_is
 
 pub invariant_of-self-2 : goal.invariant_of-self-2
 invariant_of-self-2 c =
@@ -24,7 +24,7 @@ invariant_of-self-2 c =
 
 pub returns-clause-lists : goal.returns-clause-lists
 returns-clause-lists c =
-    c.reserve_way.ensures.lists ∙ map-set_same numbers_in c.self.inside.lists.items c.args.block c.reserve.new.self c.index_mut.result.now (ap (map (λ (q : Need). q.number)) c.reserve.ensures.items ∙ ap numbers_in c.index_mut.ensures.value) ∙ ap (λ v. v.lists) c.self.view_is
+    c.reserve_way.ensures.lists ∙ map-set_same numbers_in c.self.inside.lists.items c.args.block c.reserve.new.self c.index_mut.result.now (c.reserve.ensures.items ∙ ap numbers_in c.index_mut.ensures.value) ∙ ap (λ v. v.lists) c.self.view_is
 
 pub returns-in_err-reserve-clause-ways : goal.returns-in_err-reserve-clause-ways
 returns-in_err-reserve-clause-ways c w kept = subst (λ ws. Contains ws w) (ap (λ (v : Needing). v.ways) c.self.view_is) kept

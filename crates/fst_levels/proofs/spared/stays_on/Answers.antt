@@ -2,7 +2,7 @@ use Rattle.std.proofs.Common.{◌≡◌, ◌⊎◌, subst}
 use Rattle.fst_heads.specs.{Nodes.{nodes_of, pending_in}, Pendings.IsOf}
 use Rattle.fst_levels.proofs.{Low.own_low, OwnBlock.number_stays}
 use Rattle.fst_heads.specs.declared.pending.Pending.TheVariants as pending
-use Rattle.fst_levels.proofs.needs.stays_on.Goals as goal
+use Rattle.fst_levels.proofs.spared.stays_on.Goals as goal
 
 pub returns : goal.returns
 returns c yes_it =

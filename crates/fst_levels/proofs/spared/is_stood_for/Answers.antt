@@ -2,7 +2,7 @@ use Rattle.std.proofs.Common.{◌∙◌, sym, inl, inr}
 use Rattle.fst_levels.proofs.{NeedsKept.hard_at, StoodFor.hard_at_index}
 use Rattle.fst_heads.specs.Heads.{patches_of}
 use Rattle.fst_types.specs.declared.place.Place.TheVariants as place
-use Rattle.fst_levels.proofs.needs.is_stood_for.Goals as goal
+use Rattle.fst_levels.proofs.spared.is_stood_for.Goals as goal
 
 pub returns-then-of-block : goal.returns-then-of-block
 returns-then-of-block c e =
