@@ -45,7 +45,8 @@ fn expected(first: u32, last: u32, heads: usize, number: u32) -> usize {
 }
 
 // The index of the head with this number, by interpolation search: each look is where the number would stand if it were the
-// same share of the numbers between two heads that are missing everywhere. It gives up after a few.
+// same share of the numbers between two heads that are missing everywhere. It gives up after a few, or where a look leaves more
+// than half of what was left: then most that are missing are old, and a search by halves looks at fewer.
 fn index_by_guess(heads: &[Head], number: u32) -> Option<usize>
     ensures { IfSome result (λ index. HasIndex heads.now number index) }
 {
@@ -59,6 +60,7 @@ fn index_by_guess(heads: &[Head], number: u32) -> Option<usize>
         if high <= low || number < first || last < number {
             return None;
         }
+        let half = (high - low) / 2;
         let guess = expected(first, last, high - 1 - low, number).min(high - 1 - low) + low;
         let there = heads[guess].number;
         if there == number {
@@ -70,6 +72,9 @@ fn index_by_guess(heads: &[Head], number: u32) -> Option<usize>
         } else {
             high = guess;
             last = there;
+        }
+        if high.saturating_sub(low) > half {
+            return None;
         }
     }
     None
