@@ -54,10 +54,10 @@ pub more_as : {old new : Columns} {p q : Patch} {level : ℕ} {ancestry own : An
 more_as same at P = rw (← same, ← at) P
 
 -- of the columns as they were it does not matter which proof says that their numbers rise
-pub roomier_over : {old new : Columns} (rising : IsRising old.heads.list.items) → IsRoomier (record old { heads = record { list = old.heads.list; rising = rising } }) new → IsRoomier old new
+pub roomier_over : {old new : Columns} (rising : IsRising old.heads.list.items) → IsRoomier (record old { heads = record old.heads { rising = rising } }) new → IsRoomier old new
 roomier_over rising R = record { nodes = R.nodes; marks = R.marks; crossed = R.crossed; ranks = R.ranks; floors = R.floors; waiting = R.waiting; wide = R.wide }
 
-pub added_over : {old new : Columns} {p : Patch} (rising : IsRising old.heads.list.items) → IsAdded p (record old { heads = record { list = old.heads.list; rising = rising } }) new → IsAdded p old new
+pub added_over : {old new : Columns} {p : Patch} (rising : IsRising old.heads.list.items) → IsAdded p (record old { heads = record old.heads { rising = rising } }) new → IsAdded p old new
 added_over rising A =
     let H = A.head in
     record {

@@ -36,14 +36,14 @@ pub struct Columns {
 }
 
 // How high a new patch stands that is no change.
-fn level_over(levels: &Levels, fresh: &Fresh) -> u32
+fn level_over(levels: &Levels, heads: &Heads, fresh: &Fresh) -> u32
     ensures over { (q : ℕ) → Contains fresh.now.dependencies.items q → level_of levels.now.ranks q ≤ top_level → level_of levels.now.ranks q ≤ result }
     ensures top { IsOpenGate (patch_from fresh.now) → result ≡ top_level }
 {
     match fresh.kind {
         Kind::OpenGate => TOP,
         Kind::Change(_, _, _) | Kind::Empty | Kind::SealedGate => {
-            levels.greatest(fresh.dependencies.as_slice())
+            levels.greatest(heads, fresh.dependencies.as_slice())
         }
     }
 }
@@ -56,7 +56,7 @@ impl Columns {
         ensures places { OnOk result (HasPlaces more self.new) }
         ensures queue { OnOk result (vec_len self.new.heads.list + more ≤ vec_capacity self.new.queue) }
     {
-        self.heads.list.reserve(more as usize)?;
+        self.heads.reserve(more)?;
         self.ends.reserve(more)?;
         self.levels.reserve(more)?;
         self.queue.reserve(self.heads.list.len() + more as usize)
@@ -93,7 +93,7 @@ impl Columns {
             hard_over: 0,
         };
         link(&mut self.heads, row, fresh.number);
-        self.heads.list.push_reserved(Head {
+        self.heads.push(Head {
             number: fresh.number,
             kind: fresh.kind,
             place: fresh.place,
@@ -120,9 +120,9 @@ impl Columns {
     {
         self.reserve(1)?;
         reserve_above(&mut self.heads, fresh.dependencies.as_slice())?;
-        let level = level_over(&self.levels, &fresh);
+        let level = level_over(&self.levels, &self.heads, &fresh);
         let row = fresh.dependencies.as_slice();
-        let ancestry = ancestry_over(&self.levels, row, fresh.number);
+        let ancestry = ancestry_over(&self.levels, &self.heads, row, fresh.number);
         self.put_down(alloc, fresh, level, ancestry);
         Ok(())
     }

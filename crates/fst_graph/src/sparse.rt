@@ -106,9 +106,7 @@ impl Sparse {
         Ok(Sparse {
             alloc,
             columns: Columns {
-                heads: Heads {
-                    list: Vec::new(alloc),
-                },
+                heads: Heads::new(alloc),
                 ends,
                 levels,
                 queue: Vec::new(alloc),

@@ -1,5 +1,5 @@
 -- Indices, numbers and marks.
-use Rattle.fst_heads.proofs.Basics.{◌==◌, cond, find, All, AllPairs, ◌≡◌, ◌≢◌, ℕ, zero, suc, ◌<◌, true, List, [], ◌∷◌, length, get_or, Contains, Some, None, Result, Ok, Err, refl, sym, ap, subst, ◌∙◌, inl, inr, arith, IsSearchInRange, IsBinarySearchResult, IsNonDecreasingBy, map, nat_cmp}
+use Rattle.fst_heads.proofs.Basics.{◌==◌, cond, find, All, AllPairs, ◌≡◌, ◌≢◌, ℕ, zero, suc, ◌<◌, ◌≤◌, ◌-◌, true, List, [], ◌∷◌, length, get_or, Contains, Some, None, Result, Ok, Err, refl, sym, ap, subst, ◌∙◌, inl, inr, arith, IsSearchInRange, IsBinarySearchResult, IsNonDecreasingBy, map, nat_cmp}
 use Rattle.fst_heads.proofs.Basics.{common_steps, ordering_index, cases_order, cases_lt, eq-eqb, ne_eqb, nat_tests, length-map, get_or-map}
 use Rattle.std.proofs.lemmas.Cmp.{ranked}
 use Rattle.fst_heads.proofs.Patches.{Patch, Rising, DirectlyOn, IsLiveNumber, Place, In, In-from_Contains, Contains-from_In, In-map}
@@ -43,9 +43,28 @@ module _ {X : Type 0} (key : X → ℕ) (xs : List X) (rising : AllPairs (λ x y
     ];
   }
 
-pub searched : (heads : List Head) (rising : IsRising heads) (n : ℕ) (r : Result ℕ ℕ) → IsSearchInRange r (length heads) → IsBinarySearchResult (λ h. nat_cmp h.number n) heads r
-    → record { found : (index : ℕ) → r ≡ Ok index → HasIndex heads n index; none : (index : ℕ) → r ≡ Err index → HasNone heads n }
-searched heads rising n r in_range result = let s = searched_by (λ (h : Head). h.number) heads rising n r in_range result in record { found = s.found; none = s.none }
+-- a number that lies between the keys of two that follow one another is that of none
+module _ {X : Type 0} (key : X → ℕ) (xs : List X) (rising : AllPairs (λ x y. key x < key y) xs) (n : ℕ) where
+  there : (k : ℕ) (d e : X) → k < length xs → e ≡ get_or xs k e → key (get_or xs k d) ≡ key e
+  there k d e inside is = ap key (any_default xs k d e inside ∙ sym is)
+
+  pub none_between : (k : ℕ) → k ≤ length xs → (0 < k → (e : X) × (e ≡ get_or xs (k - 1) e) × (key e < n)) → (k < length xs → (e : X) × (e ≡ get_or xs k e) × (n < key e)) → All (λ x. key x ≢ n) xs
+  none_between k within before after j d lt same = elim (cases_lt j k) [
+    | inl low ↦
+        let b = before (omega (arith, low)) in
+        let last = there (k - 1) d b.0 (omega (arith, low, within)) b.1 in
+        elim (cases_lt j (k - 1)) [
+          | inl lower ↦ let less = rising j (k - 1) d lower (omega (arith, low, within)) in omega (arith, less, last, b.2, same)
+          | inr at ↦ let e : j ≡ k - 1 = omega (arith, at, low) in let here = subst (λ m. key (get_or xs m d) ≡ n) e same in omega (arith, here, last, b.2)
+        ]
+    | inr high ↦
+        let a = after (omega (arith, high, lt)) in
+        let next = there k d a.0 (omega (arith, high, lt)) a.1 in
+        elim (cases_lt k j) [
+          | inl higher ↦ let less = rising k j d higher lt in omega (arith, less, next, a.2, same)
+          | inr at ↦ let e : j ≡ k = omega (arith, at, high) in let here = subst (λ m. key (get_or xs m d) ≡ n) e same in omega (arith, here, next, a.2)
+        ]
+  ]
 
 pub index_unique : (heads : List Head) (q s t : ℕ) → IsRising heads → HasIndex heads q s → HasIndex heads q t → s ≡ t
 index_unique [] q s t rising a b = absurd (omega (arith, a.0))

@@ -58,6 +58,9 @@ room_more heads row i s y rising index here room h k c lt inside e =
 pub room_skip : (heads : List Head) (row : List ℕ) (i : ℕ) → HasNone heads (get_or row i 0) → HasRoomUpTo heads row i → HasRoomUpTo heads row (i + 1)
 room_skip heads row i none room h k c lt inside e = grind (arith, cases_eq)
 
+pub room_all : (heads : List Head) (row : List ℕ) (i : ℕ) → HasRoomUpTo heads row i → length row ≤ i → HasRoomAbove heads row
+room_all heads row i room all h c named = room h named.0 c (omega (arith, named.1, all)) named.1 (sym named.2 ∙ any_default row named.0 h.number 0 named.1)
+
 -- the head that was linked has none of the numbers that are left, since they rise
 pub room_left : (heads : List Head) (row : List ℕ) (i s : ℕ) (y : Head) → IsStrictlyIncreasing row → s < length heads → y.number ≡ get_or row i 0 → HasRoomFrom heads row i → HasRoomFrom (set heads s y) row (i + 1)
 room_left heads row i s y once lt number room h k c le inside e =

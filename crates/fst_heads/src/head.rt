@@ -1,5 +1,6 @@
 //! What is kept of a patch.
 
+use crate::numbered::Numbered;
 use crate::pending::{Pending, Sums};
 use fst_types::{Grade, Place, Span};
 use smallvec::SmallVec;
@@ -29,4 +30,12 @@ pub struct Head {
     pub dependencies: SmallVec<u32, 4>,
     pub dependants: SmallVec<u32, 4>,
     pub sums: Sums,
+}
+
+impl Numbered for Head {
+    ghost numbered = { λ h. h.number };
+
+    fn number(&self) -> u32 {
+        self.number
+    }
 }

@@ -27,6 +27,7 @@
 pub mod cascade;
 pub mod choice;
 pub mod cover;
+pub mod directory;
 pub mod forgotten;
 pub mod growth;
 pub mod head;
@@ -34,6 +35,7 @@ pub mod heads;
 pub mod launch;
 pub mod links;
 pub mod lists;
+pub mod numbered;
 pub mod pending;
 pub mod places;
 pub mod row;

@@ -129,17 +129,26 @@ fn swap_on_disk(heads: &mut Vec<Head>, first: usize, end: usize)
     heads.drain(kept..end);
 }
 
-/// Drops the patches on disk, which stand from `first` up to `end`. Those before and behind are looked at only where they are
-/// fewer: what looks at all moves a head in half the time.
+// Drops the heads on disk, which stand from `first` up to `end`. Those before and behind are looked at only where they are
+// fewer: what looks at all moves a head in half the time.
+fn leave_live(heads: &mut Vec<Head>, first: usize, end: usize)
+    requires { SpansDisk (patches_of heads.old.items) first end }
+    ensures { heads.new.items ≡ filter (λ h. is_live (patch_of h)) heads.old.items }
+{
+    if heads.len() / 2 < end - first {
+        heads.retain(|head| is_kept(head));
+        return;
+    }
+    swap_on_disk(heads, first, end);
+}
+
+/// Drops the patches on disk, which stand from `first` up to `end`.
 pub fn drop_on_disk(heads: &mut Heads, first: usize, end: usize)
     requires { SpansDisk (patches_of heads.old.list.items) first end }
     ensures { nodes_of heads.new.list.items ≡ filter (λ x. is_live x.patch) (nodes_of heads.old.list.items) }
 {
-    if heads.list.len() / 2 < end - first {
-        heads.list.retain(|head| is_kept(head));
-        return;
-    }
-    swap_on_disk(&mut heads.list, first, end);
+    leave_live(&mut heads.list, first, end);
+    heads.directory.follow(&heads.list);
 }
 
 /// One for a patch that is not on disk.

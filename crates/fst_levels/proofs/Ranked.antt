@@ -1,10 +1,10 @@
 -- What is kept under a number: at a head's index, and where a rank is added.
-use Rattle.std.proofs.Common.{◌≡◌, ◌≢◌, ◌<◌, ◌≤◌, ◌-◌, ◌++◌, ◌∷◌, [], ℕ, zero, suc, Option, Some, None, IfSome, IfNone, List, map, length, get_or, All, AllPairs, Contains, refl, sym, ap, subst, ◌∙◌, inl, inr, arith, eq-eqb, ne_eqb}
-use Rattle.std.proofs.lemmas.{Bool.{cases_eq, cases_lt}, List.{length-map, get_or-map}}
+use Rattle.std.proofs.Common.{◌≡◌, ◌≢◌, ◌<◌, ◌++◌, ◌∷◌, [], ℕ, zero, suc, Option, Some, None, IfSome, IfNone, List, map, length, get_or, All, AllPairs, Contains, refl, sym, ap, subst, ◌∙◌, inl, inr, arith, eq-eqb, ne_eqb}
+use Rattle.std.proofs.lemmas.{Bool.{cases_eq}, List.{length-map, get_or-map}}
 use Rattle.fst_types.specs.Patches.{Patch}
 use Rattle.fst_types.proofs.Finite.{In, Contains-from_In}
 use Rattle.fst_heads.specs.{declared.head.Head.Head, Heads.{IsRising, patch_of, patches_of}, Indices.{HasIndex, HasNone}}
-use Rattle.fst_heads.proofs.Indices.{any_default, some_element, rising_map, rising_back, index_here}
+use Rattle.fst_heads.proofs.Indices.{some_element, rising_map, rising_back, index_here}
 use Rattle.fst_levels.specs.{Leveling.{AreRanked, kept_under, level_of, no_ancestry}, declared.levels.Rank.Rank}
 
 -- the number of a rank
@@ -45,28 +45,6 @@ module _ (kept : Rank → ℕ) where
   -- what a rank has that was found by its number
   pub kept_found : (ranks : List Rank) → AreRanked ranks → (index n : ℕ) → index < length ranks → ((d : Rank) → (get_or ranks index d).number ≡ n) → (r : Rank) → r ≡ get_or ranks index r → kept r ≡ kept_under kept ranks n
   kept_found ranks rising index n inside found r is = ap kept is ∙ (sym (kept_rising ranks rising index inside r) ∙ ap (kept_under kept ranks) (found r))
-
--- a number that lies between two that follow one another is of no rank
-pub none_between : (ranks : List Rank) → AllPairs (λ x y. x.number < y.number) ranks → (none : Rank) (k n : ℕ) → k ≤ length ranks → (0 < k → (get_or ranks (k - 1) none).number < n) → (k < length ranks → n < (get_or ranks k none).number) → All (λ r. r.number ≢ n) ranks
-none_between ranks rising none k n within before after j d lt same =
-    elim (cases_lt j k) [
-      | inl low ↦
-          let inside : k - 1 < length ranks = omega (arith, low, within) in
-          let last = before (omega (arith, low)) in
-          let kept = ap number_of (any_default ranks (k - 1) none d inside) in
-          elim (cases_lt j (k - 1)) [
-            | inl lower ↦ let less = rising j (k - 1) d lower inside in omega (arith, less, kept, last, same)
-            | inr at ↦ let e : j ≡ k - 1 = omega (arith, at, low) in let here = subst (λ m. (get_or ranks m d).number ≡ n) e same in omega (arith, here, kept, last)
-          ]
-      | inr high ↦
-          let inside : k < length ranks = omega (arith, high, lt) in
-          let next = after inside in
-          let kept = ap number_of (any_default ranks k none d inside) in
-          elim (cases_lt k j) [
-            | inl higher ↦ let less = rising k j d higher lt in omega (arith, less, kept, next, same)
-            | inr at ↦ let e : j ≡ k = omega (arith, at, high) in let here = subst (λ m. (get_or ranks m d).number ≡ n) e same in omega (arith, here, kept, next)
-          ]
-    ]
 
 -- ranks that stand in the order of the heads
 module _ (heads : List Head) (ranks : List Rank) (rising : IsRising heads) (aligned : map (λ r. r.number) ranks ≡ map (λ p. p.number) (patches_of heads)) where

@@ -46,12 +46,12 @@ const FEW: u32 = 8;
 const MOST_STEPS: u32 = 64;
 
 // The jump of a patch with that parent: where the parent's jump is as long as the next one, over both, else to the parent.
-fn jump_under(levels: &Levels, parent: u32) -> u32
+fn jump_under(levels: &Levels, heads: &Heads, parent: u32) -> u32
     ensures { (result ≡ parent) ⊎ (result ≡ jump_of levels.now.ranks (jump_of levels.now.ranks parent)) }
 {
-    let first = levels.rank_of(parent).ancestry;
-    let second = levels.rank_of(first.jump).ancestry;
-    let third = levels.rank_of(second.jump).ancestry;
+    let first = levels.rank_of(heads, parent).ancestry;
+    let second = levels.rank_of(heads, first.jump).ancestry;
+    let third = levels.rank_of(heads, second.jump).ancestry;
     if second.depth < first.depth
         && first.depth.abs_diff(second.depth) == second.depth.abs_diff(third.depth)
     {
@@ -76,16 +76,16 @@ fn parent_in(row: &[u32], number: u32) -> Option<u32>
 }
 
 /// The ancestry of the patch with the number, which directly depends on the row.
-pub fn ancestry_over(levels: &Levels, row: &[u32], number: u32) -> Ancestry
+pub fn ancestry_over(levels: &Levels, heads: &Heads, row: &[u32], number: u32) -> Ancestry
     ensures { (patches : List Patch) (blocks : ℕ) → IsLeveled patches blocks levels.now → 0 < number → GoesUnder patches number row.now result }
 {
     let Some(parent) = parent_in(row, number) else {
         return no_ancestry();
     };
-    let above = levels.rank_of(parent).ancestry.depth;
+    let above = levels.rank_of(heads, parent).ancestry.depth;
     Ancestry {
         parent,
-        jump: jump_under(levels, parent),
+        jump: jump_under(levels, heads, parent),
         depth: above.saturating_add(1),
     }
 }
@@ -102,7 +102,7 @@ pub fn renew(levels: &mut Levels, heads: &Heads, number: u32)
         return;
     };
     let row = heads.list[index].dependencies.as_slice();
-    let ancestry = ancestry_over(levels, row, number);
+    let ancestry = ancestry_over(levels, heads, row, number);
     levels.put_ancestry(index, ancestry);
 }
 
@@ -115,9 +115,9 @@ fn toward(sight: &Sight<'_>, own: Ancestry, to: u32) -> Rank
     ensures jump { result.ancestry.jump ≡ jump_of sight.now.levels.now.ranks result.number }
 {
     if own.jump >= to {
-        sight.levels.rank_of(own.jump)
+        sight.levels.rank_of(sight.heads, own.jump)
     } else {
-        sight.levels.rank_of(own.parent)
+        sight.levels.rank_of(sight.heads, own.parent)
     }
 }
 
@@ -126,7 +126,7 @@ fn comes_to(sight: &Sight<'_>, from: u32, to: u32) -> bool
     requires sees { Sees sight.now }
     ensures { IsTrue result → LeadsTo (patches_of sight.now.heads.now.list.items) from to }
 {
-    let mut at = sight.levels.rank_of(from);
+    let mut at = sight.levels.rank_of(sight.heads, from);
     for _ in 0..MOST_STEPS {
         if at.number == to {
             return true;
@@ -168,7 +168,7 @@ fn first_off(sight: &Sight<'_>, block: u32, number: u32) -> Option<u32>
         if let Some(off) = off_at(sight, block, at) {
             return Some(off);
         }
-        at = sight.levels.rank_of(at).ancestry.parent;
+        at = sight.levels.rank_of(sight.heads, at).ancestry.parent;
     }
     None
 }
@@ -208,7 +208,7 @@ fn leads_to_one(sight: &Sight<'_>, number: u32, changes: &[Listed]) -> Option<u3
     requires sees { Sees sight.now }
     ensures { IfSome result (λ n. Contains (map (λ l. l.number) changes.now) n × LeadsTo (patches_of sight.now.heads.now.list.items) number n) }
 {
-    let own = sight.levels.rank_of(number);
+    let own = sight.levels.rank_of(sight.heads, number);
     let mut left = TRIED;
     for change in changes {
         if let Some(to) = stand_in(sight, own, change.number) {

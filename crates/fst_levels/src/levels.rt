@@ -18,7 +18,6 @@ ghost use Rattle.fst_levels.specs.Walks.{number_at, numbers_met};
 
 mod beside;
 
-use crate::directory::Directory;
 use crate::ranks::{Ranks, halve_floors, halve_ranks, keep_live, raise_floor};
 use crate::walk::Walk;
 use fst_heads::head::{Head, Kind};
@@ -65,8 +64,7 @@ pub struct Rise {
 
 /// The levels and ancestries of the heads, in their order, and the floors of the blocks. For each block is kept what searches
 /// for a way back to it have looked at since its floor went up last, so that it goes up once that is worth it (`lift`), and
-/// of all how high up one stands that is not at the top (`ease`). Where a head's rank stands is told by a directory of their
-/// numbers. It takes 24 bytes for each head and 12 for each block, and the directory.
+/// of all how high up one stands that is not at the top (`ease`). It takes 24 bytes for each head and 12 for each block.
 #[derive(Drop)]
 pub struct Levels {
     ranks: Ranks,
@@ -115,7 +113,6 @@ impl Levels {
         Ok(Levels {
             ranks: Ranks {
                 list: Vec::new(alloc),
-                directory: Directory::new(alloc),
             },
             floors,
             owed,
@@ -132,7 +129,6 @@ impl Levels {
     {
         let room = self.ranks.list.len() + more as usize;
         self.ranks.list.reserve(more as usize)?;
-        self.ranks.directory.reserve(&self.ranks.list)?;
         self.room = room;
         Ok(())
     }
@@ -145,9 +141,6 @@ impl Levels {
         ensures floors { self.new.floors ≡ self.old.floors }
         ensures room { self.new.room ≡ self.old.room }
     {
-        self.ranks
-            .directory
-            .grow(rank.number, self.ranks.list.len());
         self.ranks.list.push_reserved(rank);
     }
 
@@ -157,8 +150,7 @@ impl Levels {
         ensures found { IfSome result (HasIndex heads.now.list.items number) }
         ensures none { IfNone result (HasNone heads.now.list.items number) }
     {
-        let _ = heads;
-        self.ranks.index_of(number)
+        self.ranks.index_of(heads, number)
     }
 
     /// The level of the head at the index.
@@ -194,13 +186,13 @@ impl Levels {
     }
 
     /// The rank of the patch with the number. Where it is forgotten its level is 0, and it has no ancestor.
-    pub fn rank_of(&self, number: u32) -> Rank
+    pub fn rank_of(&self, heads: &Heads, number: u32) -> Rank
         ensures number { result.number ≡ number }
         ensures level { result.level ≡ level_of self.now.ranks number }
         ensures parent { result.ancestry.parent ≡ parent_of self.now.ranks number }
         ensures jump { result.ancestry.jump ≡ jump_of self.now.ranks number }
     {
-        match self.ranks.index_of(number) {
+        match self.ranks.index_of(heads, number) {
             Some(index) => self.ranks.list[index],
             None => Rank {
                 number,
@@ -212,19 +204,19 @@ impl Levels {
     }
 
     /// The level of the patch with the number, and 0 where it is forgotten.
-    pub fn of(&self, number: u32) -> u32
+    pub fn of(&self, heads: &Heads, number: u32) -> u32
         ensures { result ≡ level_of self.now.ranks number }
     {
-        self.rank_of(number).level
+        self.rank_of(heads, number).level
     }
 
     /// The greatest level of the row.
-    pub fn greatest(&self, row: &[u32]) -> u32
+    pub fn greatest(&self, heads: &Heads, row: &[u32]) -> u32
         ensures { (q : ℕ) → Contains row.now q → level_of self.now.ranks q ≤ result }
     {
         let mut most = 0;
         for number in row {
-            most = self.of(*number).max(most);
+            most = self.of(heads, *number).max(most);
         }
         most
     }
@@ -240,14 +232,7 @@ impl Levels {
     {
         let first = first_on_disk(&heads.list, live);
         let end = end_on_disk(&heads.list, first, live);
-        keep_live(
-            &mut self.ranks.list,
-            &mut self.ranks.directory,
-            heads,
-            first,
-            end,
-        );
-        self.ranks.directory.follow(&self.ranks.list);
+        keep_live(&mut self.ranks.list, heads, first, end);
         drop_on_disk(heads, first, end);
     }
 
@@ -275,7 +260,7 @@ impl Levels {
         ensures room { (length self.new.ranks ≡ length self.old.ranks) × (self.new.room ≡ self.old.room) }
     {
         let head = &heads.list[index];
-        let below = self.greatest(head.dependencies.as_slice());
+        let below = self.greatest(heads, head.dependencies.as_slice());
         let level = below.max(self.own_level(head));
         if level < self.level(index) {
             self.ranks.raise(index, level);

@@ -4,8 +4,8 @@
 //! where nothing that it depends on can come to wait for its block. What is kept tells of ways that nobody has to go.
 //!
 //! Each patch has a level and each block a floor, so that no way down rises, and what lies below the floor of a block leads
-//! nowhere (`levels`, over `ranks`, their list, in which `directory` tells where a number stands). Each patch has two ancestors
-//! that it depends on, a near one and a far one, so that some dozens of steps tell that it depends on another (`ancestors`).
+//! nowhere (`levels`, over `ranks`, their list). Each patch has two ancestors that it depends on, a near one and a far one, so
+//! that some dozens of steps tell that it depends on another (`ancestors`).
 //! Of each block it is kept what its hard changes in memory need, where a way that crosses the block goes on (`needs`), but for
 //! what such a way comes to anyway (`spared`), with some of what lies below that (`below_row`), and which need is the newest of
 //! each other block (`latest`); and of the ways back that were found each with its end, since it is there until that is on disk.
@@ -25,7 +25,6 @@
 
 pub mod ancestors;
 mod below_row;
-mod directory;
 pub mod flags;
 pub mod known;
 mod latest;

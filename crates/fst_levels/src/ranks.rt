@@ -9,19 +9,26 @@ ghost use Rattle.fst_heads.specs.Nodes.{is_live_in};
 ghost use Rattle.fst_heads.specs.Spans.{SpansDisk};
 ghost use Rattle.fst_levels.specs.Leveling.{AreRanked, floor_of, halved, halved_rank, level_of, unleveled};
 
-use crate::directory::Directory;
 use crate::levels::{Rank, TOP};
 use crate::shortcuts::is_hard_in;
 use fst_heads::head::{Head, Kind};
 use fst_heads::heads::Heads;
+use fst_heads::numbered::{Numbered, index_in};
 use fst_heads::places::is_kept;
 
-/// Ranks in the order of their numbers, which rise: no two have the same. Where one stands is told by the directory.
+/// Ranks in the order of their numbers, which rise: no two have the same. Where one stands is told by the directory of the heads.
 #[derive(Drop)]
 pub struct Ranks {
     pub list: Vec<Rank>,
-    pub directory: Directory,
     pub ghost rising: { AreRanked list.items },
+}
+
+impl Numbered for Rank {
+    ghost numbered = { λ r. r.number };
+
+    fn number(&self) -> u32 {
+        self.number
+    }
 }
 
 /// Where the patch is a hard change in memory, the floor of its block is there.
@@ -64,46 +71,9 @@ pub fn halve_floors(floors: &mut Vec<u32>)
     }
 }
 
-// The index of the rank with the number, where none of those behind it is missing: then it is as far from the last index as its
-// number is from the last number.
-fn rank_from_end(ranks: &[Rank], number: u32) -> Option<usize>
-    ensures { IfSome result (λ index. (index < length ranks.now) × ((d : Rank) → (slice_index_or ranks.now index d).number ≡ number)) }
-{
-    let last = ranks.last()?.number;
-    if last < number {
-        return None;
-    }
-    let back = (last - number) as usize;
-    if ranks.len() <= back {
-        return None;
-    }
-    let index = ranks.len() - back - 1;
-    if ranks[index].number == number {
-        Some(index)
-    } else {
-        None
-    }
-}
-
-// Whether the rank with the number stands there.
-fn is_there(ranks: &[Rank], place: usize, number: u32) -> bool
-    ensures { IsTrue result → (place < length ranks.now) × ((d : Rank) → (slice_index_or ranks.now place d).number ≡ number) }
-{
-    match ranks.get(place) {
-        Some(rank) => rank.number == number,
-        None => false,
-    }
-}
-
-/// The ranks of heads that are not on disk stay; those on disk stand from `first` up to `end`, and are left out of the
-/// directory. Heads stand in the order of their ranks.
-pub fn keep_live(
-    ranks: &mut Vec<Rank>,
-    directory: &mut Directory,
-    heads: &Heads,
-    first: usize,
-    end: usize,
-)
+/// The ranks of heads that are not on disk stay; those on disk stand from `first` up to `end`. Heads stand in the order of their
+/// ranks.
+pub fn keep_live(ranks: &mut Vec<Rank>, heads: &Heads, first: usize, end: usize)
     requires aligned { map (λ r. r.number) ranks.old.items ≡ map (λ p. p.number) (patches_of heads.now.list.items) }
     requires disk { SpansDisk (patches_of heads.now.list.items) first end }
     ensures ranks { ranks.new.items ≡ filter (λ r. is_live_in (patches_of heads.now.list.items) r.number) ranks.old.items }
@@ -114,48 +84,18 @@ pub fn keep_live(
         if is_kept(&heads.list[index]) {
             ranks[kept] = ranks[index];
             kept += 1;
-        } else {
-            directory.leave_out(ranks[index].number);
         }
     }
     ranks.drain(kept..end);
 }
 
 impl Ranks {
-    // Whether the number is that of no rank, since it lies between that of the rank there and the one before.
-    fn is_missing(&self, place: usize, number: u32) -> bool
-        ensures { IsTrue result → All (λ r. r.number ≢ number) self.now.list.items }
-    {
-        let ranks = self.list.as_slice();
-        if ranks.len() < place {
-            return false;
-        }
-        if 0 < place && ranks[place - 1].number >= number {
-            return false;
-        }
-        place == ranks.len() || number < ranks[place].number
-    }
-
     /// The index of the rank with the number.
-    pub fn index_of(&self, number: u32) -> Option<usize>
+    pub fn index_of(&self, heads: &Heads, number: u32) -> Option<usize>
         ensures found { IfSome result (λ index. (index < length self.now.list.items) × ((d : Rank) → (slice_index_or self.now.list.items index d).number ≡ number)) }
         ensures none { IfNone result (All (λ r. r.number ≢ number) self.now.list.items) }
     {
-        if let Some(index) = rank_from_end(&self.list, number) {
-            return Some(index);
-        }
-        if let Some(place) = self.directory.place(number) {
-            if is_there(&self.list, place, number) {
-                return Some(place);
-            }
-            if self.is_missing(place, number) {
-                return None;
-            }
-        }
-        match self.list.binary_search_by_key(&number, |rank| rank.number) {
-            Ok(index) => Some(index),
-            Err(_) => None,
-        }
+        index_in(&self.list, &heads.directory, number)
     }
 
     /// The rank at the index is at that level.

@@ -201,7 +201,7 @@ pub fn stays_below(sight: &Sight<'_>, block: u32, row: &[u32]) -> bool
 {
     let floor = sight.levels.floor(block);
     for number in row {
-        let is_low = sight.levels.of(*number) < floor;
+        let is_low = sight.levels.of(sight.heads, *number) < floor;
         if !is_low && !is_known_under(sight, block, *number) {
             return false;
         }

@@ -18,12 +18,12 @@ use fst_heads::lists::Listed;
 const LONGEST: usize = 64;
 
 // Whether nothing of the row is at the top any more, of which that patch has come down last.
-fn is_down(levels: &Levels, row: &[u32], last: u32) -> bool {
+fn is_down(levels: &Levels, heads: &Heads, row: &[u32], last: u32) -> bool {
     if row.len() > LONGEST && newest(row) != Some(last) {
         return false;
     }
     for number in row.iter().rev() {
-        if levels.of(*number) == TOP {
+        if levels.of(heads, *number) == TOP {
             return false;
         }
     }
@@ -47,7 +47,7 @@ fn sink_one(levels: &mut Levels, heads: &Heads, walk: &mut Walk, number: u32, la
         return;
     }
     let row = heads.list[index].dependencies.as_slice();
-    if is_down(levels, row, last) && levels.lower(heads, index) {
+    if is_down(levels, heads, row, last) && levels.lower(heads, index) {
         walk.meet(index);
     }
 }

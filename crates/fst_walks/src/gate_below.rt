@@ -55,7 +55,7 @@ fn step_to(sight: &Sight<'_>, number: u32, gate: u32) -> Option<Step>
     } else {
         sight
             .levels
-            .rank_of(number)
+            .rank_of(sight.heads, number)
             .ancestry
             .depth
             .saturating_add(1)
@@ -94,7 +94,7 @@ fn step_on(sight: &Sight<'_>, index: usize, gate: u32) -> Option<Step>
 {
     let head = &sight.heads.list[index];
     let down = shortest(sight, head.dependencies.as_slice(), gate);
-    let far = sight.levels.rank_of(head.number).ancestry.jump;
+    let far = sight.levels.rank_of(sight.heads, head.number).ancestry.jump;
     shorter(down, step_to(sight, far, gate))
 }
 

@@ -108,7 +108,7 @@ pub fn rise_of(
     ensures long { length walk.new.marks ≡ length sight.now.heads.now.list.items }
     ensures room { walk.new.room ≡ walk.old.room }
 {
-    let high = sight.levels.greatest(row);
+    let high = sight.levels.greatest(sight.heads, row);
     let floor = sight.levels.floor(block);
     let owed = sight.levels.owed(block).saturating_add(told.looked);
     let still = Rise {

@@ -149,7 +149,7 @@ fn is_high_change(sight: &Sight<'_>, number: u32, least: u32, on: u32) -> bool
     requires sees { Sees sight.now }
     ensures { IsTrue result → PassesAt (test.LiveOn on) (patches_of sight.now.heads.now.list.items) number × (least ≤ level_of sight.now.levels.now.ranks number) }
 {
-    passes_at(sight, Test::LiveOn(on), number) && sight.levels.of(number) >= least
+    passes_at(sight, Test::LiveOn(on), number) && sight.levels.of(sight.heads, number) >= least
 }
 
 // A change of the block `on` to which a step leads down from the patch that was met there in turn, across its block, as far as

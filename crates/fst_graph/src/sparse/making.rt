@@ -175,7 +175,7 @@ impl Sparse {
         self.columns.levels.lift(&self.columns.heads, &self.columns.ends.up.walk, block, rise);
         self.needs.put(&self.columns.heads, row, grade);
         self.needs.note(number, prepared.told.end);
-        let ancestry = ancestry_over(&self.columns.levels, row, number);
+        let ancestry = ancestry_over(&self.columns.levels, &self.columns.heads, row, number);
         let fresh = Fresh {
             number,
             kind,

@@ -1,5 +1,5 @@
 use Rattle.fst_heads.proofs.{Basics.{◌≡◌, ◌∙◌, get_or, ap, arith, common_steps}, Words.{Head, patch_of, node_of}}
-use Rattle.fst_heads.proofs.Linking.{rising_same, nodes_set, room_more, room_skip}
+use Rattle.fst_heads.proofs.Linking.{rising_same, nodes_set, room_all, room_more, room_skip}
 use Rattle.fst_heads.proofs.links.reserve_above.Goals as goal
 use Rattle.fst_heads.proofs.links.reserve_above.Goals.{in-Some+in_ok-reserve, in_default}
 
@@ -36,7 +36,7 @@ pub returns-clause-nodes : goal.returns-clause-nodes
 returns-clause-nodes c = grind (arith, common_steps)
 
 pub returns-clause-room : goal.returns-clause-room
-returns-clause-room c = grind (arith, common_steps)
+returns-clause-room c = room_all c.loop-number.heads.list.items c.args.row.now c.loop-number.number-index c.loop-number.invariant.room (omega (arith, c.loop-number-test.false))
 
 pub returns-in_err-reserve-clause-capacity : goal.returns-in_err-reserve-clause-capacity
 returns-in_err-reserve-clause-capacity c = grind (arith, common_steps)

@@ -1,5 +1,0 @@
-use Rattle.std.proofs.Common.{◌-◌, length, vec_capacity}
-use Rattle.fst_levels.proofs.directory.Directory.note.Given as goal
-
-abbrev pub decreases-loop-self : goal.decreases-loop-self
-decreases-loop-self l = vec_capacity l.self.words - length l.self.words.items
