@@ -179,6 +179,56 @@ def refused_in_the_middle():
     return made
 
 
+def chosen_in_the_middle():
+    """`choose` of a block with one change that may be written, in the middle of 30,000 that wait for a gate."""
+    made = Script(1)
+    made.held(15_000)
+    made.patch(0, 3000)
+    made.held(15_000)
+    for _ in range(3000):
+        made.ask("choose", block=0)
+    return made
+
+
+def written_at_both_ends():
+    """A block with 4,000 changes behind a gate each: the gate of the oldest is sealed, and it is written with a newest one."""
+    made, gates = Script(1), []
+
+    def wait(at):
+        gates.append(made.gate())
+        made.patch(0, at, [gates[-1]])
+
+    for at in range(4000):
+        wait(at)
+    for turn in range(10_000):
+        made.ask("seal", gate=gates[turn])
+        made.patch(0, 4095)
+        made.write(0)
+        wait(turn % 4000)
+        if turn % 500 == 499:
+            made.ask("forget")
+    return made
+
+
+def superblock_that_waits():
+    """A superblock that waits for one block, while it comes after 20,000 changes of others that are written; then 1,800 after it."""
+    made = Script(4096)
+    first, last = made.patch(1, 0), None
+    last = made.patch(0, 0, [first])
+    over = made.sealed([made.patch(1100 + at, 0) for at in range(1800)])
+    for at in range(10_000):
+        made.patch(3000 + at % 1000, at // 1000, [over])
+    for at in range(20_000):
+        block = 2 + at % 1000
+        last = made.patch(0, 1 + at % 4000, [made.patch(block, 0)])
+        made.write(block)
+        if at % 2000 == 1999:
+            made.ask("forget")
+    for at in range(1800):
+        made.patch(1100 + at, 1, [last])
+    return made
+
+
 def picks():
     """`pick` while 4,000 blocks wait for a gate and one is written."""
     made = Script(4096)
@@ -350,7 +400,7 @@ def hot():
 
 SHAPES = [
     forget_each, forget_few, forget_nothing, after_old_ones, places, write_beside, refused, refused_in_the_middle,
-    forget_one, choose_in_flight, picks, full, one_clean, groups_ahead, groups_of_one_block, groups_behind_a_chain,
+    chosen_in_the_middle, written_at_both_ends, superblock_that_waits, forget_one, choose_in_flight, picks, full, one_clean, groups_ahead, groups_of_one_block, groups_behind_a_chain,
     group_before_another, depend_below_many, cycles, cycle_in_a_crowd, cycle_over_a_chain, hot,
 ]
 

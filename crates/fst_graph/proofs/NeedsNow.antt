@@ -4,14 +4,20 @@ use Rattle.std.specs.Option.{IfSome}
 use Rattle.std.proofs.lemmas.{Bool.cases_eq, List.Elements.{Contains-push}}
 use Rattle.fst_types.specs.{Cascade.IsCascadeOf, Closure.one, Facts.{HasOnePlaceEach, IsOnDiskWithAll, SparseAreLawful}, Gates.IsOpenNumber, Gating.{gains, sealed}, Patches.{Patch, IsOn, IsRising}, Tests.is_live}
 use Rattle.fst_types.specs.{Writable.{IsWritable, IsWritableSet}, Writing.{landed, launched}}
-use Rattle.fst_levels.specs.{Needing.{HaveGivenEnds, HaveWaysBack, IsNeeding, IsNoted, IsPut, Needing, needs_of}, WayBack.LeadsBack, declared.needs.Way.Way}
+use Rattle.fst_levels.specs.{Needing.{HaveGivenEnds, HaveWaysBack, IsNeeding, IsNoted, IsPruned, IsPut, Needing, needs_of}, WayBack.LeadsBack, declared.needs.Way.Way}
 use Rattle.fst_levels.proofs.{Backed.{Any, all_stay, edges_landed, edges_launched, leads_stays, stays_gained, stays_landed, stays_launched, stays_left, stays_put, stays_sealed}, ComesBack.live_number}
-use Rattle.fst_levels.proofs.{EndsWere.{end_gained, end_landed, end_launched, end_left, end_put, end_sealed}, NeedsGrown.{change_needed, gained_needed, left_needed, other_needed}, NeedsMoved.{landed_needed, launched_needed, sealed_needed}}
+use Rattle.fst_levels.proofs.{EndsWere.{end_gained, end_landed, end_launched, end_left, end_put, end_sealed}, NeedsGrown.{change_needed, gained_needed, left_needed, other_needed}, NeedsMoved.{landed_needed, launched_needed, sealed_needed}, Pruned.pruned_needed}
+use Rattle.fst_heads.specs.{Heads.{IsRising as HeadsRise, patches_of}, Nodes.{AreSettled, nodes_of}, declared.head.Head.Head}
 use Rattle.fst_graph.specs.{Ready.change_of, declared.prepared.Prepared.Prepared as Stored}
 
--- the same numbers, perhaps with room for others, and no way more
-pub needing_as : {patches : List Patch} {blocks : ℕ} {needs kept : Needing} → kept.lists ≡ needs.lists → ((w : Way) → Contains kept.ways w → Contains needs.ways w) → IsNeeding patches blocks needs → IsNeeding patches blocks kept
-needing_as lists ways N = record { long = rw lists N.long; needed = rw lists N.needed; back = λ w c. N.back w (ways w c) }
+-- some is left out to which a walk need not go on, and there is no way more
+pub needing_pruned : (heads : List Head) (counted : ℕ) → HeadsRise heads → IsOnDiskWithAll (patches_of heads) → AreSettled (nodes_of heads) counted → (b : ℕ) {blocks : ℕ} {needs kept : Needing} → IsPruned (patches_of heads) b needs.lists kept.lists
+    → ((w : Way) → Contains kept.ways w → Contains needs.ways w) → IsNeeding (patches_of heads) blocks needs → IsNeeding (patches_of heads) blocks kept
+needing_pruned heads counted rising disk settled b {needs = needs} {kept} pruned ways N = record {
+  long = pruned.long ∙ N.long;
+  needed = pruned_needed heads counted rising disk settled b needs.lists kept.lists pruned N.needed;
+  back = λ w c. N.back w (ways w c);
+}
 
 pub needing_sealed : {blocks : ℕ} {needs : Needing} (old new : List Patch) (numbers g : ℕ) → SparseAreLawful old numbers → SparseAreLawful new numbers → IsOpenNumber old g → IsCascadeOf (map (sealed g) old) new → IsNeeding old blocks needs → IsNeeding new blocks needs
 needing_sealed {needs = needs} old new numbers g H K gate cascade N = record {

@@ -5,13 +5,13 @@ use Rattle.fst_types.specs.{Facts.SparseAreLawful, Gates.IsOpenNumber, Patches.P
 use Rattle.fst_heads.specs.{Covers.{AreCovered, Covering}, Heads.{patch_of, patches_of, IsRising}, Keeps.IsInside, Lists.{entries_of, AreListed, entries_on}}
 use Rattle.fst_heads.specs.{Nodes.{is_forgotten_in, nodes_of, AreSettled}, Standings.{NoneBelow, standing_of}, declared.head.Head.Head, declared.lists.Listed.Listed, declared.standing.Standing.Standing}
 use Rattle.fst_walks.specs.{BothEnds.IsOver, Searching.AreOver, declared.block_walk.BlockWalk.BlockWalk, declared.ends.Ends.Ends}
-use Rattle.fst_levels.specs.{Leveling.{IsLeveled, Leveling}, Needing.{IsNeeding, Needing}, Sights.Sees, declared.needs.Way.Way, declared.sight.Sight.Sight}
+use Rattle.fst_levels.specs.{Leveling.{IsLeveled, Leveling}, Needing.{IsNeeding, IsPruned, Needing}, Sights.Sees, declared.needs.Way.Way, declared.sight.Sight.Sight}
 use Rattle.fst_graph.specs.declared.columns.Columns.{Columns}
 use Rattle.fst_graph.specs.declared.sparse.Sparse.TheInside.{Inside}
 use Rattle.fst_graph.specs.{Fresh.IsRoomier, Remembered.AreGone, Sound.{AreRemembered, AreSound, IsPrepared, remembered_of}, declared.prepared.Prepared.Prepared as Stored}
 use Rattle.fst_heads.proofs.{AtNumber.patches_in_nodes, Indices.rising_heads}
 use Rattle.fst_levels.proofs.{Resting.{listed_at, shelves}, Seen.{same_patches, tallies_wider}}
-use Rattle.fst_graph.proofs.{Flagged.{gone_from, rising_nodes, standing}, Remembered.remembered_lawful, NeedsNow.needing_as, Ranks.{along_as, leveled_as}}
+use Rattle.fst_graph.proofs.{Flagged.{gone_from, rising_nodes, standing}, Remembered.remembered_lawful, NeedsNow.needing_pruned, Ranks.{along_as, leveled_as}}
 
 -- a walk over the heads and lists that are kept is one over those that are handed on
 pub over_then : {heads seen : List Head} {lists shelves : List (Vec Listed)} {walk : BlockWalk} → seen ≡ heads → shelves ≡ lists → IsOver heads (length lists) walk → IsOver seen (length shelves) walk
@@ -142,15 +142,15 @@ module _ {s : Inside} (S : AreSound s) where
   }
 
   -- and for what the block of the change needs
-  pub reserved_sound : {kept : Needing} → kept.lists ≡ s.needs.lists → ((w : Way) → Contains kept.ways w → Contains s.needs.ways w) → AreSound (record s { needs = kept; prepared = None })
-  reserved_sound same ways = record {
+  pub reserved_sound : {kept : Needing} {b : ℕ} → IsPruned (patches_of s.columns.heads.list.items) b s.needs.lists kept.lists → ((w : Way) → Contains kept.ways w → Contains s.needs.ways w) → AreSound (record s { needs = kept; prepared = None })
+  reserved_sound {kept} {b} pruned ways = record {
     keeps = S.keeps;
     beside = S.beside;
     tallies = S.tallies;
     covered = S.covered;
     along = S.along;
     leveled = S.leveled;
-    needing = needing_as same ways S.needing;
+    needing = needing_pruned s.columns.heads.list.items s.blocks s.columns.heads.rising S.keeps.lawful.on_disk_with_all S.tallies.settled b pruned ways S.needing;
     given = λ w c. S.given w (ways w c);
     none_below = S.none_below;
     prepared = tt;

@@ -5,8 +5,8 @@ use crate::head::Head;
 use std::alloc::{AllocError, Global};
 
 /// For each number, from one of the oldest on, how many heads stand before its own. As long as none between two heads is missing
-/// it keeps nothing, since then that is how far the number is from the first. It takes 4 bytes for each number, and up to a
-/// megabyte and a half.
+/// it keeps nothing, since then that is how far the number is from the first. It takes 4 bytes for each number, and three megabytes
+/// at most, where very old patches wait beside new ones.
 #[derive(Drop)]
 pub struct Directory {
     base: u32,

@@ -42,6 +42,8 @@ pub mod KeptOver
 pub mod NoWayBack
 mod Straight
 mod NeedsKept
+pub mod Pruned
+mod LeftOut
 pub mod NeedsMoved
 pub mod NeedsGrown
 pub mod Highest

@@ -45,7 +45,7 @@ pub own_low : (b : ℕ) (p : Pending) → (p ≡ pending.Nothing) ⊎ IsOf b p �
 own_low b p (inl e) = rw e refl
 own_low b p (inr own) = behind_sinks b p own
 
-disk_or : (p : Place) → (p ≡ place.Disk) ⊎ (p ≡ place.Disk → ⊥)
+pub disk_or : (p : Place) → (p ≡ place.Disk) ⊎ (p ≡ place.Disk → ⊥)
 disk_or place.Memory = inr (λ e. cc)
 disk_or place.Flight = inr (λ e. cc)
 disk_or place.Disk = inl refl

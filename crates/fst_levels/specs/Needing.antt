@@ -97,6 +97,16 @@ pub record IsBesides (b : ℕ) (P : ℕ → Type 0) (old new : List (List ℕ)) 
   pub kept : (n : ℕ) → Contains (needs_of old b) n → Contains (needs_of new b) n
   pub only : (n : ℕ) → Contains (needs_of new b) n → Contains (needs_of old b) n ⊎ P n
 
+-- of what is kept for block b some is left out, to which a walk that crosses the block need not go on
+pub record IsLeft (patches : List Patch) (b : ℕ) (old new : List ℕ) : Type 0 where
+  pub only : (n : ℕ) → Contains new n → Contains old n
+  pub kept : (n : ℕ) → Contains old n → Contains new n ⊎ StaysOn patches b n
+
+pub record IsPruned (patches : List Patch) (b : ℕ) (old new : List (List ℕ)) : Type 0 where
+  pub long : length new ≡ length old
+  pub others : (c : ℕ) → c ≢ b → needs_of new c ≡ needs_of old c
+  pub left : IsLeft patches b (needs_of old b) (needs_of new b)
+
 -- each block has its numbers, and all is as it should be
 pub record IsNeeding (patches : List Patch) (blocks : ℕ) (needs : Needing) : Type 0 where
   pub long : length needs.lists ≡ blocks

@@ -1,7 +1,8 @@
 //! What blocks need: where a walk down goes on when it crosses a block. Of each block the numbers are kept of what its hard
 //! changes in memory directly depend on, but of the hard changes of one block one for all, since they are written together,
 //! and none that waits for changes of the block alone, since a walk would only come back to the block that it crosses. So a
-//! walk looks at each block that the block needs once, and not at each of its changes. Besides, where such a need is a soft
+//! walk looks at each block that the block needs once, and not at each of its changes. What is on disk by then is left out where
+//! there is no place for more. Besides, where such a need is a soft
 //! change that others lie below, the first of these of each other block is kept too: so that the block needs one of that
 //! block is told by its needs, and not by a walk through soft changes each time. Beside that the ways are kept that were
 //! seen to lead from a soft change back to its block, each with its end. What is on a way waits for its end, so that it
@@ -13,12 +14,12 @@ ghost use Rattle.fst_types.specs.Facts.{IsOnDiskWithAll};
 ghost use Rattle.fst_heads.specs.Heads.{patches_of};
 ghost use Rattle.fst_heads.specs.Nodes.{nodes_of, AreSettled};
 ghost use Rattle.fst_levels.specs.declared.needs.Way.{Way};
-ghost use Rattle.fst_levels.specs.Needing.{IsAtOrUnder, IsBesides, IsKnown, IsNeeding, IsNoted, IsPut, needs_of};
+ghost use Rattle.fst_levels.specs.Needing.{IsAtOrUnder, IsBesides, IsKnown, IsLeft, IsNeeding, IsNoted, IsPruned, IsPut, needs_of};
 
 use crate::below_row::{BELOW, gather_below};
 use crate::latest::Latest;
 use crate::shortcuts::is_hard_in;
-use crate::spared::is_told;
+use crate::spared::{is_told, stays_on};
 use fst_heads::head::Kind;
 use fst_heads::heads::Heads;
 use fst_heads::row::is_live_number;
@@ -113,6 +114,51 @@ fn put_firsts(list: &mut Vec<u32>, latest: &mut Latest, heads: &Heads, block: u3
     }
 }
 
+// Of what the block needs is left out what a walk need not go on to any more: it is on disk, or waits for changes of the block
+// alone.
+fn leave_out(needs: &mut Vec<u32>, heads: &Heads, block: u32)
+    requires disk { IsOnDiskWithAll (patches_of heads.now.list.items) }
+    requires settled { (blocks : ℕ) × AreSettled (nodes_of heads.now.list.items) blocks }
+    ensures left { IsLeft (patches_of heads.now.list.items) block needs.old.items needs.new.items }
+    ensures len { vec_len needs.new ≤ vec_len needs.old }
+    ensures capacity { vec_capacity needs.new ≡ vec_capacity needs.old }
+{
+    needs.retain(|number| !stays_on(heads, block, *number));
+}
+
+// Tells anew which of the needs is the newest of each other block.
+fn tell_anew(latest: &mut Latest, heads: &Heads, block: u32, needs: &[u32]) {
+    latest.clear(block);
+    for at in 0..needs.len() {
+        note_at(latest, heads, block, at, needs[at]);
+    }
+}
+
+// Room for so many more needs of the block. Where there is none, what it need not have any more is left out, and room is made for
+// as many again as then are kept, so that they are looked at seldom.
+fn make_places(
+    needs: &mut Vec<u32>,
+    latest: &mut Latest,
+    heads: &Heads,
+    block: u32,
+    places: usize,
+) -> Result<(), AllocError>
+    requires disk { IsOnDiskWithAll (patches_of heads.now.list.items) }
+    requires settled { (blocks : ℕ) × AreSettled (nodes_of heads.now.list.items) blocks }
+    ensures left { IsLeft (patches_of heads.now.list.items) block needs.old.items needs.new.items }
+    ensures len { vec_len needs.new ≤ vec_len needs.old }
+    ensures capacity { vec_capacity needs.old ≤ vec_capacity needs.new }
+    ensures room { OnOk result (vec_len needs.new + places ≤ vec_capacity needs.new) }
+{
+    if needs.capacity().saturating_sub(needs.len()) >= places {
+        return Ok(());
+    }
+    leave_out(needs, heads, block);
+    tell_anew(latest, heads, block, needs);
+    let many = needs.len().max(places);
+    needs.reserve(many)
+}
+
 impl Needs {
     /// Of no head no block needs anything.
     pub fn new(alloc: Global, blocks: u32) -> Result<Needs, AllocError>
@@ -141,18 +187,26 @@ impl Needs {
         self.lists[block as usize].as_slice()
     }
 
-    /// What the block was last found to need as a change of the other block.
-    pub fn newest_on(&self, block: u32, on: u32) -> Option<u32>
+    // What stands at that place among what the block needs.
+    fn need_at(&self, block: u32, at: usize) -> Option<u32>
         requires { block < length self.now.lists }
         ensures { IfSome result (Contains (needs_of self.now.lists block)) }
     {
-        let at = self.latest.of(block, on)?;
         let needs = self.of(block);
         if at < needs.len() {
             Some(needs[at])
         } else {
             None
         }
+    }
+
+    /// What the block was last found to need as a change of the other block.
+    pub fn newest_on(&self, block: u32, on: u32) -> Option<u32>
+        requires { block < length self.now.lists }
+        ensures { IfSome result (Contains (needs_of self.now.lists block)) }
+    {
+        let at = self.latest.of(block, on)?;
+        self.need_at(block, at)
     }
 
     /// How many patches the block needs.
@@ -174,12 +228,7 @@ impl Needs {
         ensures { IfSome result (Contains (needs_of self.now.lists block)) }
     {
         let at = self.latest.at(block, turn)?;
-        let needs = self.of(block);
-        if at < needs.len() {
-            Some(needs[at])
-        } else {
-            None
-        }
+        self.need_at(block, at)
     }
 
     // Room for one way more, if there is memory. Where none is left, ways whose end is on disk are dropped, and room is made
@@ -198,19 +247,27 @@ impl Needs {
         let _ = self.ways.reserve(self.ways.len() + 1);
     }
 
-    /// Room for so many more of the block, and where there is memory for one way more.
+    /// Room for so many more of the block, and where there is memory for one way more. What the block need not have any more may be
+    /// left out.
     pub fn reserve(&mut self, heads: &Heads, block: u32, more: usize) -> Result<(), AllocError>
+        requires disk { IsOnDiskWithAll (patches_of heads.now.list.items) }
+        requires settled { (blocks : ℕ) × AreSettled (nodes_of heads.now.list.items) blocks }
         requires block { block < length self.old.lists }
-        ensures lists { self.new.lists ≡ self.old.lists }
+        ensures pruned { IsPruned (patches_of heads.now.list.items) block self.old.lists self.new.lists }
         ensures ways { (w : Way) → Contains self.new.ways w → Contains self.old.ways w }
         ensures room { OnOk result ((self.new.block ≡ block) × (self.new.room ≡ more)) }
     {
         // A place for what is below, if there is one, is asked for besides.
-        self.lists[block as usize].reserve(more.saturating_add(BELOW))?;
+        let places = more.saturating_add(BELOW);
+        make_places(
+            &mut self.lists[block as usize],
+            &mut self.latest,
+            heads,
+            block,
+            places,
+        )?;
         // Where there is no room to tell of a need, it is not told.
-        let _ = self
-            .latest
-            .reserve(block, more.saturating_add(BELOW).min(self.lists.len()));
+        let _ = self.latest.reserve(block, places.min(self.lists.len()));
         self.block = block;
         self.room = more;
         self.reserve_way(heads);

@@ -51,7 +51,7 @@ fn is_stood_for(heads: &Heads, needs: &[u32], latest: &Latest, block: u32, numbe
 
 // Whether the patch with the number is on disk, or nothing but changes of the block is pending of it. Once that is so it stays
 // so.
-fn stays_on(heads: &Heads, block: u32, number: u32) -> bool
+pub(crate) fn stays_on(heads: &Heads, block: u32, number: u32) -> bool
     requires disk { IsOnDiskWithAll (patches_of heads.now.list.items) }
     requires settled { (blocks : ℕ) × AreSettled (nodes_of heads.now.list.items) blocks }
     ensures { IsTrue result → StaysOn (patches_of heads.now.list.items) block number }

@@ -4,8 +4,9 @@
 //! only where nothing that it depends on can come to wait for its block. Mostly a look tells (`grade` has them in order): at
 //! levels, at ancestors, at ways back that are known. Or the change comes after the same as an earlier change of the block, and
 //! is graded as that was (`before`). Else a way back is looked for down alone for a while (`below`), then over the newest of
-//! what blocks need alone (`skim`), then from both ends at once (`both_ends`): up from the changes of the block (`way_up`), and down (`way_down`) from the first changes of other
-//! blocks at or below what the new change depends on (`first_away`), which goes on from a block to what its hard changes need.
+//! what blocks need alone (`skim`), then from both ends at once (`both_ends`): up from the changes of the block (`way_up`), and
+//! down (`way_down`) from the first changes of other blocks at or below what the new change depends on (`first_away`), which
+//! goes on from a block to what its hard changes need.
 //! Where the two meet, the end of the way is traced (`trace`). Where a new hard change would stand over the floor of its block,
 //! what has to go up with it is looked for too (`lift`). *May a gate gain these names, and may a group have this change?* Where
 //! the ancestors of a name do not lead to the gate, a walk goes down from them (`starts`) through what waits for an open gate,

@@ -1,11 +1,15 @@
 //! Room for a change: every growth that putting it down takes.
 
-ghost use Rattle.std.specs.Prelude.{◌≡◌, ◌≤◌, ◌<◌, List, Contains, OnOk, length, map, slice_index_or, vec_len, vec_capacity};
+ghost use Rattle.std.specs.Prelude.{◌≡◌, ◌≤◌, ◌<◌, ℕ, List, Contains, OnOk, length, map, slice_index_or, vec_len, vec_capacity};
 ghost use Rattle.fst_graph.specs.Fresh.{HasPlaces, IsRoomier};
 ghost use Rattle.fst_graph.specs.Ready.{HasRoomAround};
 ghost use Rattle.fst_heads.specs.Covers.{AreCovered, Covering, HasRoomForRuns};
+ghost use Rattle.fst_heads.specs.Heads.{patches_of};
 ghost use Rattle.fst_heads.specs.Lists.{entries_of, HasRoomInList};
+ghost use Rattle.fst_heads.specs.Nodes.{nodes_of, AreSettled};
+ghost use Rattle.fst_types.specs.Facts.{IsOnDiskWithAll};
 ghost use Rattle.fst_types.specs.Patches.{Patch};
+ghost use Rattle.fst_levels.specs.Needing.{IsPruned};
 ghost use Rattle.fst_levels.specs.declared.needs.Way.{Way};
 
 use crate::columns::Columns;
@@ -50,12 +54,14 @@ pub fn reserve_in(
     heads: &Heads,
     prepared: &Prepared,
 ) -> Result<(), AllocError>
+    requires disk { IsOnDiskWithAll (patches_of heads.now.list.items) }
+    requires settled { (blocks : ℕ) × AreSettled (nodes_of heads.now.list.items) blocks }
     requires list { prepared.now.block < length lists.old.items }
     requires cover { prepared.now.block < length covers.old.items }
     requires needs { prepared.now.block < length needs.old.lists }
     ensures entries { map (λ l. entries_of l.items) lists.new.items ≡ map (λ l. entries_of l.items) lists.old.items }
     ensures covered { (patches : List Patch) → AreCovered patches (length covers.old.items) covers.old.items → AreCovered patches (length covers.old.items) covers.new.items }
-    ensures same { needs.new.lists ≡ needs.old.lists }
+    ensures pruned { IsPruned (patches_of heads.now.list.items) prepared.now.block needs.old.lists needs.new.lists }
     ensures ways { (w : Way) → Contains needs.new.ways w → Contains needs.old.ways w }
     ensures in_list { OnOk result (HasRoomInList (map (λ l. vec_len l) lists.new.items) (map (λ l. vec_capacity l) lists.new.items) prepared.now.block) }
     ensures runs { OnOk result ((d : Covering) → HasRoomForRuns (slice_index_or covers.new.items prepared.now.block d)) }

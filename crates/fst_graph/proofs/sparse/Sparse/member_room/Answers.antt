@@ -4,7 +4,7 @@ use Rattle.fst_heads.specs.{Heads.patches_of, Nodes.{is_forgotten_in, nodes_of}}
 use Rattle.fst_types.specs.declared.fault.Fault.TheVariants as fault
 use Rattle.fst_levels.proofs.Seen.{same_patches}
 use Rattle.fst_graph.specs.{Known.{Known, Refuses}, Membering.{ArePaired, OverlapReaches, member_order}, Ready.{change_of, IsMemberReady, MayBePut}, Sound.{AreSound, remembered_of}}
-use Rattle.fst_graph.proofs.{Borne.ok_of, Flagged.gone_past, MemberReady.{foretold, member_found}, Readied.{member_found_as, member_put}, RememberedRules.{overlap_reaches, paired_was}, RememberedSealing.foretells_known, Reserved.{around_sound, inside_sound, ready_sound}, Shelf.same_view}
+use Rattle.fst_graph.proofs.{Borne.ok_of, Flagged.gone_past, MemberReady.{foretold, member_found}, Readied.{member_found_as, member_put}, RememberedRules.{overlap_reaches, paired_was}, RememberedSealing.foretells_known, Reserved.{around_sound, inside_sound, ready_sound}, Shelf.same_view, Sound.roomier_sound}
 use Rattle.fst_graph.proofs.Sound.{as_many_lists, over_both, sees_all, view_gone, walked_then}
 use Rattle.fst_graph.proofs.sparse.Sparse.member_room.Goals.{After-deref, After-reserve_around-around}
 use Rattle.fst_graph.proofs.sparse.Sparse.member_room.Goals as goal
@@ -132,7 +132,7 @@ pub invariant_of-self-then-is_err-2 : goal.invariant_of-self-then-is_err-2
 invariant_of-self-then-is_err-2 c =
     let A = c.reserve_around-around.ensures in
     let B = c.reserve_in-inside.ensures in
-    rw c.let_go.ensures (inside_sound (walked (goal.at.invariant_of-self-then-is_err-2 c).After-reserve_around-around) c.self.invariant.1 A.roomier A.same A.wide B.entries B.covered B.same B.ways)
+    rw c.let_go.ensures (inside_sound (walked (goal.at.invariant_of-self-then-is_err-2 c).After-reserve_around-around) c.self.invariant.1 A.roomier A.same A.wide B.entries B.covered B.pruned B.ways)
 
 pub returns-then-is_err-2-clause-same : goal.returns-then-is_err-2-clause-same
 returns-then-is_err-2-clause-same c = rw (← c.self.view_is, c.let_go.ensures, same (goal.at.returns-then-is_err-2-clause-same c).After-reserve_around-around) refl
@@ -152,7 +152,7 @@ invariant_of-self-2 c =
     let shelf = ok_of c.reserve_around-around.result _ A.shelf first in
     let R = ready at (inside d) (paired d) (apart d c.reaches_tail.result c.if-reaches_tail.false c.reaches_tail.ensures.reaches) (c.in_default.ensures.clear (remembered_of s.columns.heads.list.items) (many d)) in
     let put : MayBePut (patches_of s.columns.heads.list.items) (remembered_of s.columns.heads.list.items) s.numbers s.blocks p = member_put p c.args.gates (patches_of s.columns.heads.list.items) s.numbers s.blocks c.in-Ok.ensures.gates R in
-    rw c.keep.ensures (ready_sound (walked at) c.self.invariant.1 A.roomier A.same A.wide B.entries B.covered B.same B.ways p (record {
+    rw c.keep.ensures (ready_sound (walked at) c.self.invariant.1 A.roomier A.same A.wide B.entries B.covered B.pruned B.ways p (record {
       ready = rw (same at, patches) put;
       places = ok_of c.reserve_around-around.result _ A.places first;
       waits = ok_of c.reserve_around-around.result _ A.waits first;
@@ -168,3 +168,9 @@ returns-clause-prepared c =
     let made = c.in-Ok.ensures in
     rw (← c.self.view_is, c.keep.ensures, same (goal.at.returns-clause-prepared c).After-reserve_around-around)
     (ap (λ q. record { heads = remembered_of s.columns.heads.list.items; numbers = s.numbers; blocks = s.blocks; groups = []; prepared = Some q }) (member_found_as c.in-Ok.prepared s.numbers c.args.gates made.block made.span made.names made.gates))
+
+pub reserve_in-inside-requires-clause-disk : goal.reserve_in-inside-requires-clause-disk
+reserve_in-inside-requires-clause-disk c =
+    let at = (goal.at.reserve_in-inside-requires-clause-disk c).After-reserve_around-around in
+    let around = roomier_sound (walked at) {landed = c.reserve_around-around.new.landed} c.reserve_around-around.ensures.roomier in
+    around.keeps.lawful.on_disk_with_all

@@ -4,7 +4,7 @@ use Rattle.fst_heads.specs.{Heads.patches_of, Names.numbers_of, Nodes.{is_forgot
 use Rattle.fst_types.specs.declared.fault.Fault.TheVariants as fault
 use Rattle.fst_graph.specs.{Known.{Known, Refuses}, Ready.{change_of, IsReady, IsReadyFor, MayBePut}, Sound.{AreSound, remembered_of}}
 use Rattle.fst_levels.proofs.Seen.{same_patches}
-use Rattle.fst_graph.proofs.{Borne.ok_of, Flagged.{gone_past, unspared}, Readied.{found_as, ready_adds, ready_found, ready_made}, RememberedSparse.pushed_remembered, Reserved.{around_sound, inside_sound, ready_sound}, Shelf.same_view}
+use Rattle.fst_graph.proofs.{Borne.ok_of, Flagged.{gone_past, unspared}, Readied.{found_as, ready_adds, ready_found, ready_made}, RememberedSparse.pushed_remembered, Reserved.{around_sound, inside_sound, ready_sound}, Shelf.same_view, Sound.roomier_sound}
 use Rattle.fst_graph.proofs.Sound.{as_many_lists, over_down, over_then, over_up, sees_all, view_gone, walked_then, with_prepared}
 use Rattle.fst_graph.proofs.sparse.Sparse.room.Goals.{After-deref, After-reserve_around-around}
 use Rattle.fst_graph.proofs.sparse.Sparse.room.Goals as goal
@@ -94,7 +94,10 @@ reserve_in-inside-requires c =
     let A = c.reserve_around-around.ensures in
     let lt = inside at.After-deref in
     let block = c.in-Ok.ensures.block in
+    let around = roomier_sound (walked at.After-reserve_around-around) {landed = c.reserve_around-around.new.landed} A.roomier in
     record {
+      disk = around.keeps.lawful.on_disk_with_all;
+      settled = (c.self.inside.blocks, around.tallies.settled);
       list = omega (arith, lt, block, as_many_lists S);
       cover = omega (arith, lt, block, S.covered.long);
       needs = omega (arith, lt, block, S.needing.long);
@@ -104,7 +107,7 @@ pub invariant_of-self-then-is_err-2 : goal.invariant_of-self-then-is_err-2
 invariant_of-self-then-is_err-2 c =
     let A = c.reserve_around-around.ensures in
     let B = c.reserve_in-inside.ensures in
-    rw c.let_go.ensures (inside_sound (walked (goal.at.invariant_of-self-then-is_err-2 c).After-reserve_around-around) c.self.invariant.1 A.roomier A.same A.wide B.entries B.covered B.same B.ways)
+    rw c.let_go.ensures (inside_sound (walked (goal.at.invariant_of-self-then-is_err-2 c).After-reserve_around-around) c.self.invariant.1 A.roomier A.same A.wide B.entries B.covered B.pruned B.ways)
 
 pub returns-then-is_err-2-clause-same : goal.returns-then-is_err-2-clause-same
 returns-then-is_err-2-clause-same c = rw (← c.self.view_is, c.let_go.ensures, same (goal.at.returns-then-is_err-2-clause-same c).After-reserve_around-around) refl
@@ -122,7 +125,7 @@ invariant_of-self-2 c =
     let patches = same_patches c.reserve_around-around.new.columns.heads.list.items s.columns.heads.list.items A.roomier.nodes in
     let shelf = ok_of c.reserve_around-around.result _ A.shelf first in
     let put : MayBePut (patches_of s.columns.heads.list.items) (remembered_of s.columns.heads.list.items) s.numbers s.blocks p = subst (λ g. IsReadyFor g (patches_of s.columns.heads.list.items) (remembered_of s.columns.heads.list.items) s.numbers s.blocks p) (sym c.in-Ok.ensures.gates) (ready at (inside places.After-deref) (clear places.After-deref)) in
-    rw c.keep.ensures (ready_sound (walked at) c.self.invariant.1 A.roomier A.same A.wide B.entries B.covered B.same B.ways p (record {
+    rw c.keep.ensures (ready_sound (walked at) c.self.invariant.1 A.roomier A.same A.wide B.entries B.covered B.pruned B.ways p (record {
       ready = rw (same at, patches) put;
       places = ok_of c.reserve_around-around.result _ A.places first;
       waits = ok_of c.reserve_around-around.result _ A.waits first;
