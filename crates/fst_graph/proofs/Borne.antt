@@ -1,11 +1,14 @@
 -- What holds of the patches of heads, said of the patches of their nodes; and sums and counts that fit.
 use Rattle.std.proofs.Common.{◌≡◌, ◌<◌, ◌≤◌, ◌+◌, ℕ, false, List, [], ◌∷◌, ◌++◌, Result, Ok, Err, OnOk, is_err, map, set, get_or, Contains, sym, ap, subst, inl, inr, arith, Bool, count_by}
-use Rattle.std.proofs.lemmas.{Bool.cases_lt, List.length-map, List.Sums.count_by-le-length}
+use Rattle.std.proofs.lemmas.{Bool.cases_lt, List.Elements.Contains-get_or, List.length-map, List.Sums.count_by-le-length}
 use Rattle.std.specs.List.Sorted.{IsStrictlyIncreasing}
 use Rattle.fst_types.specs.{Dependencies.DirectlyOn, Facts.SparseAreLawful, Gates.IsOpenNumber, Limits.max_heads, Patches.Patch, Tests.is_live}
 use Rattle.fst_heads.specs.{Heads.{patches_of}, Keeps.{Beside, IsInside}, Nodes.{Node, nodes_of, patches_in, pending_in, AreDistinct, AreSettled, node_of}}
-use Rattle.fst_heads.specs.{Pendings.{Fits, IsOf, max_block, sums_of}, Spreading.{is_waiting, lands}, Standings.{AllStand, arrived}, declared.{head.Head.Head, heads.Heads.Heads}, declared.standing.Standing.Standing}
-use Rattle.fst_heads.proofs.{AtNumber.patches_in_nodes, Beside.waiting_live, Few.gain_few, PendingIn.found, Stands.{stand_landed, stand_landed_outside}, Sums.sums_fit}
+use Rattle.fst_heads.specs.{Pendings.{Fits, IsOf, max_block, sums_of}, Spreading.{is_waiting, lands}, Standings.{AllStand, arrived, is_flying_on}, Stretches.LieIn, declared.{head.Head.Head, heads.Heads.Heads}, declared.standing.Standing.Standing, declared.stretch.Stretch.Stretch}
+use Rattle.fst_types.proofs.Landing.{change_at}
+use Rattle.fst_heads.proofs.{AtNumber.patches_in_nodes, Beside.waiting_live, Few.gain_few, PendingIn.found, Placed.patch_in, Stands.{stand_landed, stand_landed_outside}, Sums.sums_fit}
+use Rattle.fst_levels.proofs.Resting.{none_yet}
+use Rattle.fst_types.specs.declared.place.Place.TheVariants as place
 use Rattle.fst_heads.specs.declared.pending.Pending.TheVariants as pending
 
 -- the patches with a new one
@@ -36,6 +39,13 @@ pub ok_of : {A E : Type 0} (r : Result A E) (P : Type 0) → OnOk r P → is_err
 ok_of (Ok a) P p e = p
 ok_of (Err x) P p e = absurd (cc)
 
+-- nothing flies of what is none of the blocks
+pub none_outside : (nodes : List Node) (blocks b : ℕ) (s : Stretch) → IsInside (patches_in nodes) blocks → blocks ≤ b → LieIn (is_flying_on b) nodes s
+none_outside nodes blocks b s inside past k d lt flies =
+    let x = get_or nodes k d in
+    let within = inside x.patch b (patch_in nodes x (Contains-get_or nodes k d lt)) (change_at place.Flight b x.patch flies).0 in
+    absurd (omega (arith, within, past))
+
 -- nothing of a block is in flight any more, if it is one
 pub stand_land : (nodes : List Node) (blocks b : ℕ) (old new : List Standing) → IsInside (patches_in nodes) blocks → AllStand nodes blocks old
     → ((d : Standing) → b < blocks → new ≡ set old b (arrived (get_or old b d)))
@@ -43,8 +53,7 @@ pub stand_land : (nodes : List Node) (blocks b : ℕ) (old new : List Standing) 
     → AllStand (map (lands b) nodes) blocks new
 stand_land nodes blocks b old new inside S within outside = elim (cases_lt b blocks) [
   | inl lt ↦
-      let d : Standing = record { ready = 0; held = 0; flying = 0; held_from = 0 } in
-      subst (AllStand (map (lands b) nodes) blocks) (sym (within d lt)) (stand_landed nodes blocks b old d lt S)
+      subst (AllStand (map (lands b) nodes) blocks) (sym (within none_yet lt)) (stand_landed nodes blocks b old none_yet lt S)
   | inr past ↦ subst (AllStand (map (lands b) nodes) blocks) (sym (outside past)) (stand_landed_outside nodes blocks b old inside past S)
 ]
 

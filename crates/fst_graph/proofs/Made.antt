@@ -13,7 +13,7 @@ use Rattle.fst_graph.specs.declared.columns.Columns.{Columns}
 use Rattle.fst_graph.specs.declared.sparse.Sparse.TheInside.{Inside}
 use Rattle.fst_graph.specs.{Fresh.{HasOneMore, HasPlaces, IsAdded, IsRoomier, MayAdd}, Ready.change_of, Sound.AreSound, declared.prepared.Prepared.Prepared as Stored}
 use Rattle.fst_heads.proofs.{Added.{new_node, with_node, with_names}, AtNumber.patches_in_nodes, Beside.{beside_made, beside_depends, one_at_most, one_live}, Covering.{covered_gained, covered_push}, Making.keeps_added, Stands.stand_made}
-use Rattle.fst_levels.proofs.{Linked.{patches_made, patches_named}, Releveled.gained_is_leveled, Seen.{seen, lawful_nodes, tallies_wider}, Shelves.shelved}
+use Rattle.fst_levels.proofs.{Linked.{patches_made, patches_named}, Releveled.gained_is_leveled, Resting.none_yet, Seen.{seen, lawful_nodes, tallies_wider}, Shelves.shelved}
 use Rattle.fst_graph.proofs.{Borne.{few_counted, lawful_with, open_nodes}, Kept.{covered_made, keeps_depends, keeps_walked, none_below_set}, Listed.listed_made, NeedsNow.{given_more, needing_change, needing_gained, needing_put}}
 use Rattle.fst_graph.proofs.{PutNow.IsPutDown, Ranks.{along_grown, leveled_change, leveled_put}, Sound.{as_many_lists, as_many_marks, as_many_places, over_down, sees_all, walked_sound}, Tallied.{tallies_depends, tallies_made}}
 use Rattle.fst_heads.specs.declared.pending.Pending.TheVariants as pending
@@ -217,18 +217,17 @@ module _ {s : Inside} (S : AreSound s) where
     change_sound walk places {rise = rise} {columns = columns} P pends same named R long at leveled below lifted still there after under gs row put noted listed cover_is covered covers_are enters {least} low here =
         let W = walked_sound S {walked = walked walk places} (record { long = long ∙ ap length same; crossed = omega (arith, (walked walk places).up.crossed.ok.0, s.columns.ends.up.crossed.ok.0, as_many_places S) }) (over_down S) in
         let nodes = P.nodes in
-        let none : Standing = record { ready = 0; held = 0; flying = 0; held_from = 0 } in
         let patches = put_patches s.columns.heads.list.items columns.heads.list.items made nodes in
         let as_long : length walk.marks ≡ length s.columns.ends.up.walk.marks = omega (arith, long, ap length same, as_many_marks S) in
         record {
           keeps = rw (patches, P.marks.0) (keeps_walked (omega (arith, as_long, length_push walk.marks false, length_push s.columns.ends.up.walk.marks false)) D.keeps);
           beside = rw (patches, P.crossed.0) (beside_made old s.blocks s.live 1 (with_items s.columns.ends.up.crossed places).items made refl (omega (arith, D.few, S.beside.counted)) W.beside);
-          tallies = rw (nodes, listed, enters none, pends) (tallies_wider _ (s.numbers + 1) s.blocks _ _ _ _ _ _ (D.tallies none) P.waiting P.wide);
+          tallies = rw (nodes, listed, enters none_yet, pends) (tallies_wider _ (s.numbers + 1) s.blocks _ _ _ _ _ _ (D.tallies none_yet) P.waiting P.wide);
           covered = rw (patches, covers_are) (covered_made s.numbers p.told.grade D.ready.depends S.covered D.ready.inside cover_is covered);
           along = along_grown {old = walked walk places} P.marks P.crossed W.along;
           leveled = rw patches (leveled_change p rise (numbers_met s.columns.heads.list.items walk) S.keeps.lawful.one_place_each D.given (risen walk same named R) (rw (← at, ← S.leveled.long) leveled) below lifted still (rw (← there, ← after) under) P.ranks P.floors);
           needing = rw patches (needing_change p S.keeps.lawful D.keeps.lawful S.given S.needing (rw (← D.prepared.needed.0, ← gs, ← row) put) noted D.ready.back);
           given = given_more old s.numbers s.needs.ways _ p S.keeps.lawful.one_place_each S.given noted D.ready.back;
-          none_below = rw (enters none) (none_below_set s.standings.items s.unmarked least p.block _ S.none_below low here);
+          none_below = rw (enters none_yet) (none_below_set s.standings.items s.unmarked least p.block _ S.none_below low here);
           prepared = tt;
         }

@@ -9,6 +9,7 @@ use Rattle.fst_heads.specs.{Standings.{AllStand, AreMarked, may_be_written, stan
 use Rattle.fst_graph.specs.Known.{IsStuckByGates}
 use Rattle.fst_types.proofs.{Landing.{change_at, at_change}, Stuck.never_stuck_lem, Writes.same_test}
 use Rattle.fst_heads.proofs.{Forgetting.live_place_of, PendingIn.{found, told_of}, Placed.{patch_in, node_of_patch}, Sums.sums_count}
+use Rattle.fst_levels.proofs.Resting.{none_yet}
 use Rattle.fst_levels.proofs.Ready.{ready_in, held_in, node_ready, ready_or_held}
 use Rattle.fst_levels.proofs.Numbered.{none_counted, counted_none, counted_some}
 use Rattle.fst_types.specs.declared.place.Place.TheVariants as place
@@ -59,19 +60,19 @@ counted_settled nodes numbers blocks H S x c =
     ∙ count_agree (λ n. not (is_pending (pending_in nodes n) pending.Nothing)) (is_live_in (patches_in nodes))
     (λ n. same_test (not (is_pending (pending_in nodes n) pending.Nothing)) (is_live_in (patches_in nodes) n) (told_live nodes blocks n rising S) (live_told nodes blocks n rising S)) x.patch.dependencies)
 
-module _ (nodes : List Node) (numbers blocks : ℕ) (H : SparseAreLawful (patches_in nodes) numbers) (S : AreSettled nodes blocks) (b from : ℕ) where
+module _ (nodes : List Node) (numbers blocks : ℕ) (H : SparseAreLawful (patches_in nodes) numbers) (S : AreSettled nodes blocks) (b : ℕ) (told : Standing) where
   -- something is counted as ready where something may be written
-  pub ready_counted : (0 < (standing_of nodes b from).ready) ↔ HasReady (patches_in nodes) b
+  pub ready_counted : (0 < (standing_of nodes b told).ready) ↔ HasReady (patches_in nodes) b
   ready_counted = (
     λ some. let x = counted_some (is_ready_on b) nodes (λ z. omega (arith, z, some)) in (x.0.patch, ready_in nodes numbers blocks H S b x.0 x.1 x.2),
     λ r.
         let y = node_ready nodes numbers blocks H S b r.0 r.1 in
-        elim (cases_lt 0 (standing_of nodes b from).ready) [ inl some ↦ some | inr none ↦ absurd (none_counted (is_ready_on b) nodes (omega (arith, none)) y.0 y.1 y.3) ],
+        elim (cases_lt 0 (standing_of nodes b told).ready) [ inl some ↦ some | inr none ↦ absurd (none_counted (is_ready_on b) nodes (omega (arith, none)) y.0 y.1 y.3) ],
   )
 
-  marked_writable : may_be_written (standing_of nodes b from) ≡ true → IsWritable (patches_in nodes) b
+  marked_writable : may_be_written (standing_of nodes b told) ≡ true → IsWritable (patches_in nodes) b
   marked_writable e =
-      let s = standing_of nodes b from in
+      let s = standing_of nodes b told in
       let k = three (s.flying == 0) (s.held == 0) (not (s.ready == 0)) e in
       let free = none_counted (is_flying_on b) nodes (eqb-true s.flying 0 k.0) in
       let none = none_counted (is_held_on b) nodes (eqb-true s.held 0 k.1) in
@@ -87,9 +88,9 @@ module _ (nodes : List Node) (numbers blocks : ℕ) (H : SparseAreLawful (patche
             ]);
       }
 
-  writable_marked : IsWritable (patches_in nodes) b → may_be_written (standing_of nodes b from) ≡ true
+  writable_marked : IsWritable (patches_in nodes) b → may_be_written (standing_of nodes b told) ≡ true
   writable_marked w =
-      let s = standing_of nodes b from in
+      let s = standing_of nodes b told in
       let flying = counted_none (is_flying_on b) nodes (λ x c e. let at = change_at place.Flight b x.patch e in w.none_flies x.patch (patch_in nodes x c) at.0 at.1) in
       let held = counted_none (is_held_on b) nodes (λ x c e. let h = held_in nodes numbers blocks H S b x c e in h.left_out (w.hard x.patch h.in_memory h.hard)) in
       let more = ready_counted.1 w.some in
@@ -99,7 +100,7 @@ module _ (nodes : List Node) (numbers blocks : ℕ) (H : SparseAreLawful (patche
 -- the mark of each block is true where it may be written
 pub marked_settled : (nodes : List Node) (numbers blocks : ℕ) → SparseAreLawful (patches_in nodes) numbers → AreSettled nodes blocks → (standings : List Standing) → AllStand nodes blocks standings → AreMarked (patches_in nodes) blocks standings
 marked_settled nodes numbers blocks H S standings A b d lt =
-    subst (λ s. (may_be_written s ≡ true) ↔ IsWritable (patches_in nodes) b) (sym (A.each b d lt)) (marked_writable nodes numbers blocks H S b (get_or standings b d).held_from, writable_marked nodes numbers blocks H S b (get_or standings b d).held_from)
+    subst (λ s. (may_be_written s ≡ true) ↔ IsWritable (patches_in nodes) b) (sym (A.each b d lt)) (marked_writable nodes numbers blocks H S b (get_or standings b d), writable_marked nodes numbers blocks H S b (get_or standings b d))
 
 -- a block that is writable has nothing in flight, and is one of the blocks
 pub writable_rests : (nodes : List Node) (blocks b : ℕ) (standings : List Standing) (d : Standing) → IsInside (patches_in nodes) blocks → AllStand nodes blocks standings → IsWritable (patches_in nodes) b
@@ -115,17 +116,15 @@ pub picked_none : (patches : List Patch) (blocks : ℕ) (standings : List Standi
 picked_none patches blocks standings inside M none b w =
     let m = w.some.1.in_memory in
     let lt = inside w.some.0 b m.head m.change in
-    let d : Standing = record { ready = 0; held = 0; flying = 0; held_from = 0 } in
-    false≢true (sym (none b d lt) ∙ (M b d lt).1 w)
+    false≢true (sym (none b none_yet lt) ∙ (M b none_yet lt).1 w)
 
 pub picked_some : (patches : List Patch) (blocks b : ℕ) (standings : List Standing) → AreMarked patches blocks standings → b < blocks
     → ((d : Standing) → may_be_written (get_or standings b d) ≡ true) → ((c : ℕ) (d : Standing) → c < b → may_be_written (get_or standings c d) ≡ false) → IsPick patches (Some b)
 picked_some patches blocks b standings M lt mark below =
-    let d : Standing = record { ready = 0; held = 0; flying = 0; held_from = 0 } in
     record {
-      writable = (M b d lt).0 (mark d);
+      writable = (M b none_yet lt).0 (mark none_yet);
       least = λ c w. elim (cases_lt c b) [
-        | inl less ↦ absurd (false≢true (sym (below c d less) ∙ (M c d (omega (arith, less, lt))).1 w))
+        | inl less ↦ absurd (false≢true (sym (below c none_yet less) ∙ (M c none_yet (omega (arith, less, lt))).1 w))
         | inr le ↦ le
       ];
     }

@@ -19,7 +19,7 @@ pub record IsPutDown (s : Inside) (p : Stored) : Type 0 where
   pub shelf : p.block < length s.lists.items
   pub given : (q : ℕ) → Contains p.dependencies.items q → q ≤ s.numbers
   pub keeps : Keeps (patches_of s.columns.heads.list.items ++ change_of s.numbers p ∷ []) (s.numbers + 1) s.blocks (s.columns.ends.up.walk.marks ++ false ∷ [])
-  pub counted : (own : Standing) → own ≡ get_or s.standings.items p.block own → own ≡ standing_of (nodes_of s.columns.heads.list.items) p.block (get_or s.standings.items p.block own).held_from
+  pub counted : (own : Standing) → own ≡ get_or s.standings.items p.block own → own ≡ standing_of (nodes_of s.columns.heads.list.items) p.block (get_or s.standings.items p.block own)
   pub tallies : (own : Standing) → Tallies (with_node (nodes_of s.columns.heads.list.items) (change_of s.numbers p)) (s.numbers + 1) s.blocks
       (set (shelved s.lists.items) p.block (get_or (shelved s.lists.items) p.block [] ++ entry (change_of s.numbers p) ∷ []))
       (set s.standings.items p.block (entered (is_hard_kind (change_of s.numbers p).kind) (is_pending (new_node (nodes_of s.columns.heads.list.items) (change_of s.numbers p)).pending (pending.Block p.block)) (s.numbers + 1) (get_or s.standings.items p.block own)))

@@ -1,11 +1,11 @@
 -- What a launch leaves: of the changes in flight, and of what is over them, another is pending; all else is as the launch of the patches alone leaves it.
-use Rattle.std.proofs.Common.{◌≡◌, ◌<◌, ◌≤◌, ◌+◌, ◌==◌, ◌∙◌, ◌∷◌, [], ℕ, Bool, true, false, not, cond, if◌then◌else◌, List, length, map, filter, get_or, set, count_by, get_or-set_same, get_or-set_other, Contains, refl, sym, ap, subst, arith}
-use Rattle.std.proofs.lemmas.{Bool.{cond-false, cond-true, eq-eqb, ne_eqb}, List.Elements.All-contains}
+use Rattle.std.proofs.Common.{◌≡◌, ◌<◌, ◌≤◌, ◌+◌, ◌==◌, ◌∙◌, ◌∷◌, [], ℕ, Bool, true, false, not, cond, if◌then◌else◌, List, length, map, filter, get_or, set, count_by, get_or-set_same, Contains, inl, inr, refl, sym, ap, subst, arith}
+use Rattle.std.proofs.lemmas.{Bool.{cases_Bool, cond-false, cond-true, eq-eqb, ne_eqb}, List.Elements.All-contains}
 use Rattle.fst_types.specs.{Dependencies.IsLiveNumber, Facts.HasOnePlaceEach, Tests.{is_change_at, is_live}, Writing.launched}
 use Rattle.fst_types.proofs.{Dropping.{filter_in, in_filter}, Finite.{In, In-from_Contains, Contains-from_In, In-get_or, In-map}, GateGains.In-unmap}
 use Rattle.fst_heads.specs.{Keeps.Beside, Landed.{AreLanded, is_landed}, Nodes.{Node, AreSettled, patches_in}, Pendings.is_pending, Spreading.{IsRisenOf, launches, unrisen}}
-use Rattle.fst_heads.specs.{Standings.{AllStand, NoneHeldBelow, held_on, is_flying_on, is_held_on, ready_on, sent}, declared.standing.Standing.Standing}
-use Rattle.fst_heads.proofs.{Beside.{is_nothing, waiting_is}, Counts.{held_counted, ready_counted}, CountsAs.{count_cons, count_map, stand_set, standing_same}, Placed.{launched_stands, patch_in, patches_launched, unmapped}, Stands.stand_launched}
+use Rattle.fst_heads.specs.{Standings.{AllStand, held_on, is_flying_on, is_held_on, is_ready_on, ready_on, sent}, Stretches.{LieIn, LiesIn, nowhere}, declared.standing.Standing.Standing}
+use Rattle.fst_heads.proofs.{Beside.{is_nothing, waiting_is}, Counts.{held_counted, ready_counted}, CountsAs.{count_cons, count_map, stand_set, standing_same, stands_as}, Placed.{launched_stands, patch_in, patches_launched, unmapped}, Stands.{launched_other, rising_in, stand_launched}, Stretches.NumbersHave}
 use Rattle.fst_graph.proofs.Settling.{ready_memory}
 use Rattle.fst_types.specs.declared.place.Place.TheVariants as place
 use Rattle.fst_heads.specs.declared.pending.Pending.TheVariants as pending
@@ -18,6 +18,24 @@ patches_unrisen (x ∷ xs) = ap (λ ps. x.patch ∷ ps) (patches_unrisen xs)
 flies_by : (b : ℕ) (nodes : List Node) → count_by (is_flying_on b) nodes ≡ count_by (is_change_at place.Flight b) (patches_in nodes)
 flies_by b [] = refl
 flies_by b (x ∷ xs) = count_cons (is_flying_on b) x xs ∙ (ap (λ k. cond (is_flying_on b x) 1 0 + k) (flies_by b xs) ∙ sym (count_cons (is_change_at place.Flight b) x.patch (patches_in xs)))
+
+-- the numbers of those that pass
+abbrev numbers_that : (Node → Bool) → List Node → List ℕ
+numbers_that t nodes = map (λ x. x.patch.number) (filter t nodes)
+
+flying_by : (b : ℕ) (nodes : List Node) → numbers_that (is_flying_on b) nodes ≡ map (λ p. p.number) (filter (is_change_at place.Flight b) (patches_in nodes))
+flying_by b [] = refl
+flying_by b (x ∷ xs) = elim (cases_Bool (is_flying_on b x)) [ inl e ↦ rw e (ap (λ ns. x.patch.number ∷ ns) (flying_by b xs)) | inr e ↦ rw e (flying_by b xs) ]
+
+-- where the same numbers pass, they have what they had
+numbers_again : (t u : Node → Bool) (P : ℕ → Type 0) (new nodes : List Node) → numbers_that t new ≡ numbers_that u nodes → NumbersHave u P nodes → NumbersHave t P new
+numbers_again t u P new nodes same all k d lt e =
+    let y = get_or new k d in
+    let number : Node → ℕ = λ x. x.patch.number in
+    let listed = In-map number (filter t new) y y.patch.number (in_filter t new y (In-get_or new k d lt) e) refl in
+    let r = In-unmap number (filter u nodes) y.patch.number (subst (λ ns. In ns y.patch.number) same listed) in
+    let was = filter_in u nodes r.0 r.1 in
+    subst P r.2 (All-contains (λ x. u x ≡ true → P x.patch.number) nodes r.0 all (Contains-from_In nodes r.0 was.0) was.1)
 
 not_same : (s t : Bool) → not s ≡ not t → s ≡ t
 not_same true true e = refl
@@ -86,16 +104,9 @@ module _ (nodes new : List Node) (numbers blocks b : ℕ) (H : HasOnePlaceEach (
     few = B.few;
   }
 
-  -- where the same are held, none is held below the same number
-  none_held_again : (c : ℕ) → held_on c new ≡ held_on c nodes → (from : ℕ) → NoneHeldBelow nodes c from → NoneHeldBelow new c from
-  none_held_again c same from none k d lt e =
-      let y = get_or new k d in
-      let number : Node → ℕ = λ x. x.patch.number in
-      let listed = In-map number (filter (is_held_on c) new) y y.patch.number (in_filter (is_held_on c) new y (In-get_or new k d lt) e) refl in
-      let r = In-unmap number (filter (is_held_on c) nodes) y.patch.number (subst (λ ns. In ns y.patch.number) same listed) in
-      let was = filter_in (is_held_on c) nodes r.0 r.1 in
-      let le = All-contains (λ x. is_held_on c x ≡ true → from ≤ x.patch.number) nodes r.0 none (Contains-from_In nodes r.0 was.0) was.1 in
-      omega (arith, le, r.2)
+  -- the same fly as before what rose
+  flying_again : (c : ℕ) → numbers_that (is_flying_on c) new ≡ numbers_that (is_flying_on c) mid
+  flying_again c = flying_by c new ∙ (ap (λ ps. map (λ p. p.number) (filter (is_change_at place.Flight c) ps)) (sym (patches_unrisen new) ∙ (ap patches_in R ∙ patches_unrisen mid)) ∙ sym (flying_by c mid))
 
   -- all that is ready of the block goes, and nothing else
   pub stand_risen : (standings : List Standing) (d : Standing) → b < blocks → (get_or standings b d).flying ≡ 0
@@ -109,16 +120,29 @@ module _ (nodes new : List Node) (numbers blocks b : ℕ) (H : HasOnePlaceEach (
       λ c. flies_by c new ∙ (ap (count_by (is_change_at place.Flight c)) (sym (patches_unrisen new) ∙ (ap patches_in R ∙ patches_unrisen mid)) ∙ sym (flies_by c mid)) in
       let holds : (c : ℕ) → count_by (is_held_on c) new ≡ count_by (is_held_on c) nodes =
       λ c. sym (held_counted c new) ∙ (ap length (held c) ∙ held_counted c nodes) in
+      let none : ready_on b new ≡ [] = ready b ∙ cond-true (b == b) [] (ready_on b nodes) (eq-eqb b b refl) in
+      let here : get_or (set standings b s) b d ≡ s = get_or-set_same standings b s d (omega (arith, lt, A.long)) in
       stand_set new nodes blocks b standings s lt A
-      (standing_same _ _ _ _ _ _ _
-      (sym (sym (ready_counted b new) ∙ ap length (ready b ∙ cond-true (b == b) [] (ready_on b nodes) (eq-eqb b b refl))))
+      (standing_same _ _ _ _ _ _ s
+      (sym (sym (ready_counted b new) ∙ ap length none))
       (ap (λ t. t.held) (A.each b d lt) ∙ sym (holds b))
-      (sym (ap (λ t. t.flying) (get_or-set_same standings b s d (omega (arith, lt, A.long)))) ∙ (ap (λ t. t.flying) (L.each b d lt) ∙ sym (flies b))))
-      (none_held_again b (held b) _ (A.above b d lt))
-      (λ c inside ne. record {
-        counted = λ from. standing_same _ _ _ _ _ _ from
-            (sym (ready_counted c new) ∙ (ap length (ready c ∙ cond-false (c == b) [] (ready_on c nodes) (ne_eqb c b ne)) ∙ ready_counted c nodes))
+      (sym (ap (λ t. t.flying) here) ∙ (ap (λ t. t.flying) (L.each b d lt) ∙ sym (flies b))))
+      (record {
+        held = numbers_again (is_held_on b) (is_held_on b) (λ n. s.held_from ≤ n) new nodes (held b) (A.lie b d lt).held;
+        ready = numbers_again (is_ready_on b) (is_ready_on b) (LiesIn nowhere) new [] none (λ k x within. absurd (omega (arith, within)));
+        flying = numbers_again (is_flying_on b) (is_flying_on b) (LiesIn s.flying_in) new mid (flying_again b) (subst (λ (t : Standing). LieIn (is_flying_on b) mid t.flying_in) here (L.lie b d lt).flying);
+      })
+      (λ c inside ne.
+      let goes_on = ready c ∙ cond-false (c == b) [] (ready_on c nodes) (ne_eqb c b ne) in
+      let besides = stands_as (launches (ready_on b nodes)) nodes c (λ x i. launched_other nodes (rising_in nodes H.rising) b c x i ne) in
+      record {
+        counted = λ t. standing_same _ _ _ _ _ _ t
+            (sym (ready_counted c new) ∙ (ap length goes_on ∙ ready_counted c nodes))
             (holds c)
-            (flies c ∙ (sym (ap (λ t. t.flying) (L.each c d inside)) ∙ (ap (λ t. t.flying) (get_or-set_other standings b c s d ne) ∙ ap (λ t. t.flying) (A.each c d inside))));
-        above = none_held_again c (held c);
+            (flies c ∙ ap (λ (u : Standing). u.flying) (besides.counted t));
+        lie = λ t told. record {
+          held = numbers_again (is_held_on c) (is_held_on c) (λ n. t.held_from ≤ n) new nodes (held c) told.held;
+          ready = numbers_again (is_ready_on c) (is_ready_on c) (LiesIn t.ready_in) new nodes goes_on told.ready;
+          flying = numbers_again (is_flying_on c) (is_flying_on c) (LiesIn t.flying_in) new mid (flying_again c) (besides.lie t told).flying;
+        };
       })

@@ -3,7 +3,7 @@ use Rattle.std.proofs.{Common.{◌≡◌, ◌∙◌, ℕ, List, Option, Some, No
 use Rattle.std.specs.Global.{Vec}
 use Rattle.fst_types.specs.{Facts.SparseAreLawful, Gates.IsOpenNumber, Patches.Patch}
 use Rattle.fst_heads.specs.{Covers.{AreCovered, Covering}, Heads.{patch_of, patches_of, IsRising}, Keeps.IsInside, Lists.{entries_of, AreListed, entries_on}}
-use Rattle.fst_heads.specs.{Nodes.{is_forgotten_in, nodes_of, AreSettled}, Standings.{NoneBelow, standing_of}, declared.head.Head.Head, declared.lists.Listed.Listed, declared.standing.Standing.Standing}
+use Rattle.fst_heads.specs.{Nodes.{is_forgotten_in, nodes_of, AreSettled}, Standings.{NoneBelow}, declared.head.Head.Head, declared.lists.Listed.Listed}
 use Rattle.fst_walks.specs.{BothEnds.IsOver, Searching.AreOver, declared.block_walk.BlockWalk.BlockWalk, declared.ends.Ends.Ends}
 use Rattle.fst_levels.specs.{Leveling.{IsLeveled, Leveling}, Needing.{IsNeeding, IsPruned, Needing}, Sights.Sees, declared.needs.Way.Way, declared.sight.Sight.Sight}
 use Rattle.fst_graph.specs.declared.columns.Columns.{Columns}
@@ -172,12 +172,6 @@ module _ {s : Inside} (S : AreSound s) where
 
   pub its_list : (slice : List (Vec Listed)) → slice ≡ s.lists.items → (b : ℕ) → b < length slice → (list : Vec Listed) → list ≡ get_or slice b list → entries_of list.items ≡ entries_on b (patches_of s.columns.heads.list.items)
   its_list slice e b lt list there = listed_at s.columns.heads.list.items s.blocks b s.lists.items list S.tallies.listed (omega (arith, lt, many_lists slice e)) (subst (λ ls. list ≡ get_or ls b list) e there)
-
-  pub its_standing : (slice : List (Vec Listed)) → slice ≡ s.lists.items → (b : ℕ) → b < length slice → (told : List Standing) → told ≡ s.standings.items
-      → (b < length told) × ((d : Standing) → get_or told b d ≡ standing_of (nodes_of s.columns.heads.list.items) b (get_or told b d).held_from)
-  its_standing slice e b lt told same =
-      let inside : b < s.blocks = omega (arith, lt, many_lists slice e) in
-      (omega (arith, inside, ap length same, S.tallies.standing.long), λ d. rw same (S.tallies.standing.each b d inside))
 
 -- what is forgotten is on disk, and the patches that are not forgotten are as many as heads are not marked
 module _ {s : Inside} (I : AreSound s × AreRemembered s.columns.heads.list.items s.landed s.forgotten s.prepared) where

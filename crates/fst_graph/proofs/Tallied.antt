@@ -6,7 +6,7 @@ use Rattle.std.specs.List.Sorted.{IsStrictlyIncreasing}
 use Rattle.fst_types.specs.{Dependencies.{DirectlyOn, IsLiveNumber}, Facts.SparseAreLawful, Gates.IsOpenNumber, Gating.gains, Lists.Lists}
 use Rattle.fst_types.specs.{Patches.{Patch, IsOn, OpenGate}, Tests.{is_live, is_on, is_change_at}, Writing.launched}
 use Rattle.fst_heads.specs.{Keeps.Tallies, Lists.{Entry, entries_on, is_live_on, AreListed}, Nodes.{Node, patches_in, at_number, linked_to, pending_in, AreLinked, AreGiven, AreDistinct, AreSettled}}
-use Rattle.fst_heads.specs.{Pendings.sums_of, Spreading.{IsRisenOf, IsSpreadOf, launches, lands, seals}, Standings.{AllStand, NoneHeldBelow, held_on, ready_on, sent}, declared.standing.Standing.Standing}
+use Rattle.fst_heads.specs.{Pendings.sums_of, Spreading.{IsRisenOf, IsSpreadOf, launches, lands, seals}, Standings.{AllStand, LieAsTold, NoneHeldBelow, held_on, ready_on, sent, standing_of}, declared.standing.Standing.Standing}
 use Rattle.fst_types.proofs.{Crash.same_number, Dropping.filter_in, Finite.{In, In-from_Contains, Contains-from_In}}
 use Rattle.fst_heads.proofs.{Added.{with_node, new_node, with_names}, AtNumber.{at_same, at_other}}
 use Rattle.fst_heads.proofs.Carried.{risen_spread, length_spread, linked_spread, given_spread, distinct_spread, listed_spread, linked_sealed, distinct_sealed, linked_landed, distinct_landed}
@@ -106,7 +106,10 @@ tallies_launched nodes new numbers blocks b lists standings d queue cap H H' T l
 pub stand_found : (nodes : List Node) (blocks b n : ℕ) (standings : List Standing) (own now : Standing) → b < blocks → own ≡ get_or standings b own → now ≡ record own { held_from = n }
     → NoneHeldBelow nodes b n → AllStand nodes blocks standings → AllStand nodes blocks (set standings b now)
 stand_found nodes blocks b n standings own now lt there is low A =
-    rw is (stand_set nodes nodes blocks b standings (record own { held_from = n }) lt A (ap (λ (s : Standing). record s { held_from = n }) (there ∙ A.each b own lt)) low (λ c inside ne. record { counted = λ from. refl; above = λ from none. none }))
+    let each = subst (λ (s : Standing). s ≡ standing_of nodes b s) (sym there) (A.each b own lt) in
+    let told = subst (LieAsTold nodes b) (sym there) (A.lie b own lt) in
+    rw is (stand_set nodes nodes blocks b standings (record own { held_from = n }) lt A (ap (λ (s : Standing). record s { held_from = n }) each) (record { held = low; ready = told.ready; flying = told.flying })
+    (λ c inside ne. record { counted = λ s. refl; lie = λ s L. L }))
 
 pub tallies_found : (nodes : List Node) (numbers blocks b n : ℕ) (lists : List (List Entry)) (standings : List Standing) (queue : List ℕ) (cap : ℕ) (own now : Standing)
     → SparseAreLawful (patches_in nodes) numbers → Tallies nodes numbers blocks lists standings queue cap → b < blocks

@@ -16,6 +16,7 @@ pub mod Linking
 pub mod Placed
 pub mod Listing
 pub mod Joining
+pub mod Stretches
 pub mod Sums
 pub mod PendingAt
 mod LinkedRows
@@ -35,6 +36,7 @@ pub mod Starting
 mod Launching
 mod Rising
 pub mod Carried
+mod Halves
 mod Passing
 mod Landing
 pub mod Indexed

@@ -13,11 +13,13 @@ pub use Rattle.fst_heads.specs.Nodes.{Node, at_number, linked_to, gains_names, p
 pub use Rattle.fst_heads.specs.Pendings.{joined, of_kind, sums_of, Sinks, Rises, IsOf, is_pending, meet, join, of_change, Fits, plus, minus, together, nothing, max_block, height, joined_sums, of_mean, is_even, HasIn}
 pub use Rattle.fst_heads.specs.Rows.{IsSparseRow, IsMissing, Gains, touches, IsTouched, IsDependency, kind_touches, shares}
 pub use Rattle.fst_heads.specs.Spreading.{Spreading, now, is_recorded, is_waiting, seals, IsSpreadOf, unspread, lands, follows, rested, launches, recorded, notified, CanUpdate, enqueued, unrisen, IsRisenOf, updated, enqueues, enqueued_sealed}
-pub use Rattle.fst_heads.specs.Standings.{is_ready_on, is_held_on, is_flying_on, held_on, AllStand, NoneHeldBelow, standing_of, released, ready_on, entered, sent, arrived, may_be_written}
+pub use Rattle.fst_heads.specs.Standings.{is_ready_on, is_held_on, is_flying_on, held_on, AllStand, LieAsTold, NoneHeldBelow, standing_of, readied, released, ready_on, entered, sent, arrived, may_be_written}
+pub use Rattle.fst_heads.specs.Stretches.{LiesIn, LieIn, nowhere, widened}
 pub use Rattle.fst_heads.specs.Tests.{is_hard_kind, is_live_place, kind_passes}
 pub use Rattle.fst_heads.specs.declared.head.Head.{Head}
 pub use Rattle.fst_heads.specs.declared.lists.Listed.{Listed}
 pub use Rattle.fst_heads.specs.declared.pending.Pending.{Pending}
 pub use Rattle.fst_heads.specs.declared.pending.Sums.{Sums}
 pub use Rattle.fst_heads.specs.declared.standing.Standing.{Standing}
+pub use Rattle.fst_heads.specs.declared.stretch.Stretch.{Stretch}
 pub use Rattle.fst_heads.specs.declared.pending.Pending.TheVariants as pending

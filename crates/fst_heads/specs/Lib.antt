@@ -11,6 +11,7 @@ pub mod Nodes
 pub mod Frames
 pub mod Lists
 pub mod Standings
+pub mod Stretches
 pub mod Spans
 pub mod Spreading
 pub mod Names

@@ -1,6 +1,6 @@
 //! Which changes of a block may be written, by the list of the block.
 
-ghost use Rattle.std.specs.Prelude.{◌<◌, ◌≤◌, ◌==◌, ◌∷◌, ◌++◌, [], ℕ, List, ◌≡◌, ◌&&◌, length, All, AllPairs, IfOk, IfErr, IfSome, IfNone};
+ghost use Rattle.std.specs.Prelude.{◌<◌, ◌≤◌, ◌==◌, ◌∷◌, [], ℕ, List, ◌≡◌, ◌&&◌, length, IfOk, IfErr, IfSome, IfNone};
 ghost use Rattle.std.specs.List.{list_any};
 ghost use Rattle.fst_types.specs.declared.fault.Fault.TheVariants as fault;
 ghost use Rattle.fst_heads.specs.Heads.{kind_of, patches_of};
@@ -8,14 +8,16 @@ ghost use Rattle.fst_heads.specs.Names.{numbers_of};
 ghost use Rattle.fst_heads.specs.Lists.{entries_of, entries_on};
 ghost use Rattle.fst_heads.specs.Nodes.{node_of, nodes_of};
 ghost use Rattle.fst_heads.specs.Standings.{NoneHeldBelow, is_ready_on, is_held_on, held_on, ready_on};
+ghost use Rattle.fst_heads.specs.Stretches.{LieIn};
 ghost use Rattle.fst_heads.specs.Tests.{is_hard_kind};
 
 use crate::head::{Head, Kind};
 use crate::heads::Heads;
-use crate::lists::Listed;
+use crate::lists::{Listed, list_from, list_in};
 use crate::pending::is_of_block;
 use crate::places::is_change_at;
 use crate::standing::Standing;
+use crate::stretch::Stretch;
 use crate::turns::next_in_turn;
 use fst_types::{Fault, Grade, PatchNo, Place};
 use std::alloc::Global;
@@ -37,51 +39,29 @@ fn is_ready_at(heads: &Heads, number: u32, block: u32) -> bool
     }
 }
 
-/// The writable set of a block. The list has the changes of the block that are not on disk. At most so many changes wait for
-/// changes of the block in memory alone: they are looked for from both ends of the list, and where they are found, no
-/// others are looked at.
+/// The writable set of a block, in order of number. The list has the changes of the block that are not on disk. Those that
+/// wait for changes of the block in memory alone lie in the stretch: no others are looked at.
 pub fn ready_set(
     alloc: Global,
     heads: &Heads,
     list: &[Listed],
-    most: usize,
+    ready_in: Stretch,
     block: u32,
 ) -> Result<Vec<PatchNo>, Fault>
     requires listed { entries_of list.now ≡ entries_on block (patches_of heads.now.list.items) }
-    requires most { length (ready_on block (nodes_of heads.now.list.items)) ≤ most }
+    requires lie { LieIn (is_ready_on block) (nodes_of heads.now.list.items) ready_in }
     ensures ok { IfOk result (λ numbers. numbers_of numbers.items ≡ ready_on block (nodes_of heads.now.list.items)) }
     ensures refused { IfErr result (λ f. (0 < length (ready_on block (nodes_of heads.now.list.items))) × (f ≡ fault.Memory)) }
 {
-    let mut front = Vec::new(alloc);
-    // What was found from the end of the list, the newest first.
-    let mut back = Vec::new(alloc);
-    let mut rest = list;
-    let mut left = most;
-    let mut from_back = false;
-    while left > 0 {
-        let Some((listed, others)) = next_in_turn(rest, from_back) else {
-            break;
-        };
+    let mut numbers = Vec::new(alloc);
+    for listed in list_in(list, ready_in) {
         if is_ready_at(heads, listed.number, block) {
-            let no = PatchNo(listed.number);
-            let kept = if from_back {
-                back.push(no)
-            } else {
-                front.push(no)
-            };
-            if kept.is_err() {
+            let Ok(()) = numbers.push(PatchNo(listed.number)) else {
                 return Err(Fault::Memory);
-            }
-            left -= 1;
+            };
         }
-        rest = others;
-        from_back = !from_back;
     }
-    back.reverse();
-    match front.append(&mut back) {
-        Ok(()) => Ok(front),
-        Err(_) => Err(Fault::Memory),
-    }
+    Ok(numbers)
 }
 
 // Whether the patch is a hard change of the block in memory that waits for more.
@@ -101,15 +81,6 @@ fn is_held_at(heads: &Heads, number: u32, block: u32) -> bool
         Some(index) => is_held(&heads.list[index], block),
         None => false,
     }
-}
-
-// The list from the number on, which is looked up by halves.
-fn list_from(list: &[Listed], number: u32) -> &[Listed]
-    requires { AllPairs (λ x y. x.number < y.number) list.now }
-    ensures { (before : List Listed) × (list.now ≡ before ++ result.now) × All (λ x. x.number < number) before }
-{
-    let before = list.partition_point(|listed| listed.number < number);
-    &list[before..]
 }
 
 /// The least hard patch of the block in memory outside its writable set. The list has the changes of the block that are

@@ -1,6 +1,6 @@
 //! Each block lists its changes that are not on disk, so that a call that asks for those of one block looks at no others.
 
-ghost use Rattle.std.specs.Prelude.{◌==◌, ◌&&◌, ◌≡◌, ◌≤◌, ◌<◌, [], not, length, map, filter, IfOk, vec_capacity};
+ghost use Rattle.std.specs.Prelude.{◌==◌, ◌&&◌, ◌≡◌, ◌≤◌, ◌<◌, ◌++◌, [], List, All, AllPairs, not, length, map, filter, IfOk, vec_capacity};
 ghost use Rattle.std.specs.List.{list_any};
 ghost use Rattle.std.specs.List.Sorted.{IsStrictlyIncreasing};
 ghost use Rattle.fst_heads.specs.Spreading.{lands};
@@ -8,13 +8,15 @@ ghost use Rattle.fst_heads.specs.Heads.{patches_of};
 ghost use Rattle.fst_heads.specs.Keeps.{IsInside};
 ghost use Rattle.fst_heads.specs.Lists.{entries_of, entries_on, flying_on, AreListed};
 ghost use Rattle.fst_heads.specs.Nodes.{at_number, nodes_of};
+ghost use Rattle.fst_heads.specs.Standings.{is_flying_on};
+ghost use Rattle.fst_heads.specs.Stretches.{LieIn};
 ghost use Rattle.fst_types.specs.Tests.{is_among, is_change_at};
 ghost use Rattle.fst_types.specs.declared.place.Place.TheVariants as place;
 
 use crate::heads::Heads;
 use crate::places::is_change_at;
 use crate::row::has_number;
-use crate::turns::next_in_turn;
+use crate::stretch::Stretch;
 use fst_types::{Place, Span};
 use std::alloc::{AllocError, Global};
 
@@ -36,6 +38,25 @@ pub fn empty_lists(alloc: Global, blocks: u32) -> Result<Vec<Vec<Listed>>, Alloc
     Ok(lists)
 }
 
+/// The list from the number on, which is looked up by halves.
+pub(crate) fn list_from(list: &[Listed], number: u32) -> &[Listed]
+    requires { AllPairs (λ x y. x.number < y.number) list.now }
+    ensures { (before : List Listed) × (list.now ≡ before ++ result.now) × All (λ x. x.number < number) before }
+{
+    let before = list.partition_point(|listed| listed.number < number);
+    &list[before..]
+}
+
+/// The part of the list whose numbers lie in the stretch, which is looked up by halves.
+pub(crate) fn list_in(list: &[Listed], stretch: Stretch) -> &[Listed]
+    requires { AllPairs (λ x y. x.number < y.number) list.now }
+    ensures { (before after : List Listed) × (list.now ≡ before ++ (result.now ++ after)) × All (λ x. x.number < stretch.from) before × All (λ x. stretch.to < x.number) after }
+{
+    let rest = list_from(list, stretch.from);
+    let inside = rest.partition_point(|listed| listed.number <= stretch.to);
+    &rest[..inside]
+}
+
 // The change with the number is on disk, if it is one of the block in flight; whether it is one.
 fn land_number(heads: &mut Heads, number: u32, block: u32) -> bool
     ensures flew { result ≡ list_any (λ x. (x.patch.number == number) && is_change_at place.Flight block x.patch) (nodes_of heads.old.list.items) }
@@ -51,49 +72,27 @@ fn land_number(heads: &mut Heads, number: u32, block: u32) -> bool
     false
 }
 
-// So many places in the queue.
-fn make_places(queue: &mut Vec<u32>, many: usize)
-    requires idle { queue.old.items ≡ [] }
-    requires room { many ≤ vec_capacity queue.old }
-    ensures len { length queue.new.items ≡ many }
-    ensures capacity { vec_capacity queue.new ≡ vec_capacity queue.old }
-{
-    for _ in 0..many {
-        queue.push_reserved(0);
-    }
-}
-
-// What is in flight among the listed is on disk, and waits in the queue, in order. So many fly: they are looked for from
-// both ends of the list, and where they are found, no others are looked at.
-fn land_listed(heads: &mut Heads, list: &[Listed], queue: &mut Vec<u32>, flying: usize, block: u32)
+// What is in flight among the listed is on disk, and waits in the queue, in order. It lies in the stretch: no others are
+// looked at.
+fn land_listed(
+    heads: &mut Heads,
+    list: &[Listed],
+    queue: &mut Vec<u32>,
+    flying_in: Stretch,
+    block: u32,
+)
     requires listed { entries_of list.now ≡ entries_on block (patches_of heads.old.list.items) }
-    requires flying { length (flying_on block (patches_of heads.old.list.items)) ≡ flying }
+    requires lie { LieIn (is_flying_on block) (nodes_of heads.old.list.items) flying_in }
     requires idle { queue.old.items ≡ [] }
     requires room { length heads.old.list.items ≤ vec_capacity queue.old }
     ensures nodes { nodes_of heads.new.list.items ≡ map (lands block) (nodes_of heads.old.list.items) }
     ensures queued { queue.new.items ≡ flying_on block (patches_of heads.old.list.items) }
     ensures capacity { vec_capacity queue.new ≡ vec_capacity queue.old }
 {
-    make_places(queue, flying);
-    let mut low = 0;
-    let mut high = flying;
-    let mut rest = list;
-    let mut from_back = false;
-    while low < high {
-        let Some((listed, others)) = next_in_turn(rest, from_back) else {
-            break;
-        };
+    for listed in list_in(list, flying_in) {
         if land_number(heads, listed.number, block) {
-            if from_back {
-                high -= 1;
-                queue[high] = listed.number;
-            } else {
-                queue[low] = listed.number;
-                low += 1;
-            }
+            queue.push_reserved(listed.number);
         }
-        rest = others;
-        from_back = !from_back;
     }
 }
 
@@ -105,17 +104,17 @@ fn drop_landed(list: &mut Vec<Listed>, landed: &[u32])
     list.retain(|listed| !has_number(landed, listed.number));
 }
 
-/// What is in flight of the block is on disk, and waits in the queue. As many of its changes fly as `flying`.
+/// What is in flight of the block is on disk, and waits in the queue. It lies in the stretch.
 pub fn land_block(
     heads: &mut Heads,
     lists: &mut Vec<Vec<Listed>>,
     queue: &mut Vec<u32>,
-    flying: usize,
+    flying_in: Stretch,
     block: u32,
 )
     requires inside { IsInside (patches_of heads.old.list.items) (length lists.old.items) }
     requires listed { AreListed (patches_of heads.old.list.items) (length lists.old.items) (map (λ l. entries_of l.items) lists.old.items) }
-    requires flying { length (flying_on block (patches_of heads.old.list.items)) ≡ flying }
+    requires lie { LieIn (is_flying_on block) (nodes_of heads.old.list.items) flying_in }
     requires idle { queue.old.items ≡ [] }
     requires room { length heads.old.list.items ≤ vec_capacity queue.old }
     ensures nodes { nodes_of heads.new.list.items ≡ map (lands block) (nodes_of heads.old.list.items) }
@@ -124,7 +123,7 @@ pub fn land_block(
     ensures capacity { vec_capacity queue.new ≡ vec_capacity queue.old }
 {
     if let Some(list) = lists.get_mut(block as usize) {
-        land_listed(heads, list, queue, flying, block);
+        land_listed(heads, list, queue, flying_in, block);
         drop_landed(list, queue);
     }
 }

@@ -1,6 +1,7 @@
-//! How each block stands: the mark that says whether it may be written, as counts that follow each change; and before which
-//! number none of its changes is held. One that is held no more never is again, and a new one has the greatest number, so
-//! that number only rises.
+//! How each block stands: the mark that says whether it may be written, as counts that follow each change; before which
+//! number none of its changes is held; and between which numbers lie those that are ready, and those in flight. One that is
+//! held no more never is again, and a new one has the greatest number, so that the number only rises. All that is ready of a
+//! block is launched together, so that a stretch has such a change at both ends until it has none.
 
 ghost use Rattle.std.specs.Prelude.{◌≡◌, ◌<◌, ◌≤◌, [], ℕ, true, false, length, map, Contains, IfOk, MatchOption, slice_index_or, slice_set, vec_len, vec_capacity};
 ghost use Rattle.fst_types.specs.Patches.{Change};
@@ -9,7 +10,8 @@ ghost use Rattle.fst_heads.specs.Frames.{frames_of};
 ghost use Rattle.fst_heads.specs.Heads.{kind_of};
 ghost use Rattle.fst_heads.specs.Nodes.{Node, nodes_of, at_number};
 ghost use Rattle.fst_heads.specs.Spreading.{now, IsStale, recorded};
-ghost use Rattle.fst_heads.specs.Standings.{AllStand, NoneBelow, may_be_written, released, entered, sent, arrived};
+ghost use Rattle.fst_heads.specs.Standings.{AllStand, NoneBelow, may_be_written, readied, released, entered, sent, arrived};
+ghost use Rattle.fst_heads.specs.Stretches.{nowhere};
 ghost use Rattle.fst_heads.specs.Tests.{is_hard_kind};
 
 use crate::cascade::pending_now;
@@ -17,17 +19,21 @@ use crate::choice::is_hard;
 use crate::head::Kind;
 use crate::heads::Heads;
 use crate::pending::{Pending, is_pending};
+use crate::stretch::Stretch;
 use fst_types::{BlockNo, Place};
 use std::alloc::{AllocError, Global};
 
 /// How many changes of a block in memory have nothing pending but changes of the block in memory, how many hard ones in
-/// memory have more, and how many changes are in flight. No hard one that has more has a number below `held_from`.
+/// memory have more, and how many changes are in flight. No hard one that has more has a number below `held_from`, and those
+/// that have no more lie in `ready_in`, those in flight in `flying_in`.
 #[derive(Clone, Copy)]
 pub struct Standing {
     pub ready: usize,
     pub held: usize,
     pub flying: usize,
     pub held_from: u32,
+    pub ready_in: Stretch,
+    pub flying_in: Stretch,
 }
 
 impl Standing {
@@ -38,13 +44,22 @@ impl Standing {
         self.ready > 0 && self.held == 0 && self.flying == 0
     }
 
-    /// A change in memory that waited for more now waits for changes of the block in memory alone.
-    fn release(&mut self, kind: Kind)
-        requires ready { self.old.ready < 18446744073709551615 }
-        requires held { is_hard_kind (kind_of kind) ≡ true → 0 < self.old.held }
-        ensures { self.new ≡ released (is_hard_kind (kind_of kind)) self.old }
+    // One change more is ready, which has the number.
+    fn add_ready(&mut self, number: u32)
+        requires { self.old.ready < 18446744073709551615 }
+        ensures { self.new ≡ readied number self.old }
     {
         self.ready += 1;
+        self.ready_in = self.ready_in.widened(number);
+    }
+
+    /// A change in memory that waited for more now waits for changes of the block in memory alone.
+    fn release(&mut self, kind: Kind, number: u32)
+        requires ready { self.old.ready < 18446744073709551615 }
+        requires held { is_hard_kind (kind_of kind) ≡ true → 0 < self.old.held }
+        ensures { self.new ≡ released (is_hard_kind (kind_of kind)) number self.old }
+    {
+        self.add_ready(number);
         if is_hard(kind) {
             self.held -= 1;
         }
@@ -57,7 +72,7 @@ impl Standing {
         ensures { self.new ≡ entered (is_hard_kind (kind_of kind)) is_ready number self.old }
     {
         if is_ready {
-            self.ready += 1;
+            self.add_ready(number);
         } else if is_hard(kind) {
             if self.held == 0 {
                 self.held_from = number;
@@ -78,7 +93,9 @@ impl Standing {
         ensures { self.new ≡ sent self.old }
     {
         self.flying = self.ready;
+        self.flying_in = self.ready_in;
         self.ready = 0;
+        self.ready_in = Stretch::nowhere();
     }
 
     /// What was in flight is on disk.
@@ -86,6 +103,7 @@ impl Standing {
         ensures { self.new ≡ arrived self.old }
     {
         self.flying = 0;
+        self.flying_in = Stretch::nowhere();
     }
 }
 
@@ -99,14 +117,14 @@ pub fn ready_count(standings: &[Standing], block: u32) -> usize
     }
 }
 
-/// How many changes of the block are in flight.
-pub fn flying_count(standings: &[Standing], block: u32) -> usize
-    ensures inside { (d : Standing) → block < length standings.now → result ≡ (slice_index_or standings.now block d).flying }
-    ensures outside { length standings.now ≤ block → result ≡ 0 }
+/// Between which numbers the changes of the block in flight lie.
+pub fn flying_stretch(standings: &[Standing], block: u32) -> Stretch
+    ensures inside { (d : Standing) → block < length standings.now → result ≡ (slice_index_or standings.now block d).flying_in }
+    ensures outside { length standings.now ≤ block → result ≡ nowhere }
 {
     match standings.get(block as usize) {
-        Some(standing) => standing.flying,
-        None => 0,
+        Some(standing) => standing.flying_in,
+        None => Stretch::nowhere(),
     }
 }
 
@@ -134,7 +152,9 @@ pub fn empty_standings(alloc: Global, blocks: u32) -> Result<Vec<Standing>, Allo
         ready: 0,
         held: 0,
         flying: 0,
-        held_from: 0
+        held_from: 0,
+        ready_in: Stretch::nowhere(),
+        flying_in: Stretch::nowhere(),
     }; blocks as usize]
 }
 
@@ -163,7 +183,7 @@ pub(crate) fn record_at(
     if let Kind::Change(_, block, _) = head.kind {
         if let Place::Memory = head.place {
             if is_pending(new, Pending::Block(block)) {
-                standings[block as usize].release(head.kind);
+                standings[block as usize].release(head.kind, head.number);
             }
         }
     }

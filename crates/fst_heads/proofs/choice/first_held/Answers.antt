@@ -1,4 +1,4 @@
-use Rattle.fst_heads.proofs.{Basics.{◌≤◌, ◌∙◌, ◌∷◌, ◌++◌, [], length, cond, refl, sym, ap, subst, arith, append-nil, append_assoc, length-append}, Words.{is_held_on}}
+use Rattle.fst_heads.proofs.{Basics.{◌≤◌, ◌<◌, All-weaker, ◌∙◌, ◌∷◌, ◌++◌, [], length, cond, refl, sym, ap, subst, arith, append-nil, append_assoc, length-append}, Words.{is_held_on}}
 use Rattle.fst_heads.proofs.Passing.{passing, passing_before, passing_least, passing_start, rising_list, passing_skipped, passing_front, passing_back, held_listed, first_found}
 use Rattle.fst_heads.proofs.choice.first_held.Goals as goal
 use Rattle.fst_heads.proofs.choice.first_held.Goals.{then-is_held_at-2+else-not-from_back, else-is_held_at-2}
@@ -17,7 +17,7 @@ loop-left-init c =
     let list = c.args.list.now in
     let rest = c.list_from-rest.result.now in
     let parts = c.list_from-rest.ensures in
-    let left_out = passing_before (is_held_on b) heads c.args.standing.held_from c.requires.above parts.0 rest parts.2 in
+    let left_out = passing_before (is_held_on b) heads (λ n. c.args.standing.held_from ≤ n) c.requires.above parts.0 rest (All-weaker (λ l. l.number < c.args.standing.held_from) (λ l. c.args.standing.held_from ≤ l.number → ⊥) (λ l lt le. omega (arith, lt, le)) parts.0 parts.2) in
     let whole = sym left_out ∙ (ap (passing (is_held_on b) heads) (sym parts.1) ∙ passing_start b (is_held_on b) (held_listed b) heads list c.args.heads.now.rising c.requires.listed) in
     record { found = ([], append-nil (passing (is_held_on b) heads rest) ∙ whole, refl); few = omega (arith, ap length whole, c.requires.held) }
 

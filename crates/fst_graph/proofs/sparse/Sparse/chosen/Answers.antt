@@ -1,24 +1,22 @@
-use Rattle.std.proofs.Common.{[], refl, ◌≡◌, ◌∙◌, count_by, ap, arith}
-use Rattle.fst_heads.specs.{Heads.patches_of, Names.numbers_of, Nodes.nodes_of, Standings.is_ready_on}
-use Rattle.fst_heads.proofs.Counts.{ready_counted}
-use Rattle.fst_levels.proofs.Resting.{empty_set, none_yet, chosen_ready, chosen_refused}
+use Rattle.std.proofs.Common.{[], refl, subst, sym, arith}
+use Rattle.fst_heads.specs.{Heads.patches_of, Names.numbers_of, Nodes.nodes_of, Standings.is_ready_on, Stretches.LieIn, declared.standing.Standing.Standing}
+use Rattle.fst_levels.proofs.Resting.{empty_set, chosen_ready, chosen_refused}
 use Rattle.fst_graph.proofs.{Flagged.unspared, Grouped.{failed, fine}, RememberedLooks.{choice, ready}}
-use Rattle.fst_graph.proofs.Sound.{its_list, its_standing, many_lists, view_gone, with_prepared}
+use Rattle.fst_graph.proofs.Sound.{its_list, many_lists, view_gone, with_prepared}
 use Rattle.fst_graph.proofs.sparse.Sparse.chosen.Goals as goal
 
-pub ready_set-requires : goal.ready_set-requires
-ready_set-requires c = record {
-  listed =
-      rw c.deref-3.ensures.value
-      (its_list c.self.invariant.0 c.deref.result.now c.deref.ensures.value c.args.block.0 c.in-Some.ensures.lookup.3.0 c.in-Some.list.now c.in-Some.ensures.lookup.1);
-  most =
-      let b = c.args.block.0 in
-      let heads = c.self.inside.columns.heads.list.items in
-      let stands = its_standing c.self.invariant.0 c.deref.result.now c.deref.ensures.value b c.in-Some.ensures.lookup.3.0 c.deref-2.result.now c.deref-2.ensures.value in
-      let most : c.ready_count-most.result ≡ count_by (is_ready_on b) (nodes_of heads) =
-      c.ready_count-most.ensures none_yet stands.0 ∙ ap (λ t. t.ready) (stands.1 none_yet) in
-      omega (arith, ready_counted b (nodes_of heads), most);
-}
+pub ready_set-requires-clause-listed : goal.ready_set-requires-clause-listed
+ready_set-requires-clause-listed c =
+    rw c.deref-2.ensures.value
+    (its_list c.self.invariant.0 c.deref.result.now c.deref.ensures.value c.args.block.0 c.in-Some.ensures.lookup.3.0 c.in-Some.list.now c.in-Some.ensures.lookup.1)
+
+pub ready_set-requires-clause-lie : goal.ready_set-requires-clause-lie
+ready_set-requires-clause-lie c =
+    let b = c.args.block.0 in
+    let many = many_lists c.self.invariant.0 c.deref.result.now c.deref.ensures.value in
+    let lt = c.in-Some.ensures.lookup.3.0 in
+    let lie = c.self.invariant.0.tallies.standing.lie b c.index.result.now (omega (arith, lt, many)) in
+    subst (λ (s : Standing). LieIn (is_ready_on b) (nodes_of c.self.inside.columns.heads.list.items) s.ready_in) (sym c.index.ensures) lie.ready
 
 pub returns-in_default-clause-ok : goal.returns-in_default-clause-ok
 returns-in_default-clause-ok c =

@@ -37,7 +37,7 @@ pub first_held-requires-clause-above : goal.first_held-requires-clause-above
 first_held-requires-clause-above c =
     let b = c.args.block.0 in
     let own = c.index-standing.result.now in
-    subst (λ (s : Standing). NoneHeldBelow (nodes_of c.self.inside.columns.heads.list.items) b s.held_from) (sym c.index-standing.ensures) (c.self.invariant.0.tallies.standing.above b own (within c))
+    subst (λ (s : Standing). NoneHeldBelow (nodes_of c.self.inside.columns.heads.list.items) b s.held_from) (sym c.index-standing.ensures) (c.self.invariant.0.tallies.standing.lie b own (within c)).held
 
 pub returns-in_default-first_held-clause-none : goal.returns-in_default-first_held-clause-none
 returns-in_default-first_held-clause-none c =

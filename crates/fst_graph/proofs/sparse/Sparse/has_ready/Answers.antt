@@ -15,12 +15,12 @@ returns c =
     let b = c.args.block.0 in
     let inside : b < length c.deref.result.now = omega (arith, c.if-len-block.false, c.len.ensures, ap length c.deref.ensures.value) in
     let there : b < s.blocks = omega (arith, inside, ap length c.deref.ensures.value, S.tallies.standing.long) in
-    let count : c.ready_count.result ≡ (standing_of (nodes_of heads) b 0).ready =
+    let count : c.ready_count.result ≡ (standing_of (nodes_of heads) b none_yet).ready =
     c.ready_count.ensures none_yet inside ∙ (ap (λ xs. (slice_index_or xs b none_yet).ready) c.deref.ensures.value ∙ ap (λ t. t.ready) (S.tallies.standing.each b none_yet there)) in
     let G = view_gone c.self.invariant in
     let D = S.keeps.lawful.on_disk_with_all in
     rw (← c.self.view_is) (λ still.
-    let k = ready_counted (nodes_of heads) s.numbers s.blocks (lawful_nodes heads s.numbers S.keeps.lawful) S.tallies.settled b 0 in (
+    let k = ready_counted (nodes_of heads) s.numbers s.blocks (lawful_nodes heads s.numbers S.keeps.lawful) S.tallies.settled b none_yet in (
       λ told. (ready _ (patches_of heads) G D b).1 (subst (λ ps. HasReady ps b) (patches_in_nodes heads) (k.0 (omega (arith, ltb-true _ _ told, count)))),
       λ some. lt-ltb _ _ (omega (arith, k.1 (subst (λ ps. HasReady ps b) (sym (patches_in_nodes heads)) ((ready _ (patches_of heads) G D b).0 some)), count)),
     ))

@@ -1,14 +1,8 @@
-use Rattle.fst_heads.proofs.Basics.{◌<◌, ◌∙◌, ◌++◌, ◌-◌, List, AllPairs, length, take, drop, take_all, sym, ap, arith, rules, length-drop, length-take, get_or, cases_eq, inl, inr, IsNonDecreasingBy, take-append-drop}
+use Rattle.fst_heads.proofs.Basics.{◌<◌, ◌∙◌, ◌++◌, ◌-◌, length, take, drop, take_all, sym, ap, arith, rules, length-drop, length-take, take-append-drop}
 use Rattle.std.proofs.Common.{nat_lt}
 use Rattle.std.proofs.lemmas.{Bool.ltb-true, List.get_or-take, List.Sorted.{IsPartitionPoint-from_clause, IsPartitionedBy-ltb}}
-use Rattle.fst_heads.proofs.Words.{Listed}
-use Rattle.fst_heads.proofs.choice.list_from.Goals as goal
-
-not_falling : (list : List Listed) → AllPairs (λ x y. x.number < y.number) list → IsNonDecreasingBy (λ l. l.number) list
-not_falling list rising i j d le lt = elim (cases_eq i j) [
-  | inl same ↦ omega (arith, ap (λ k. (get_or list k d).number) same)
-  | inr ne ↦ let less : i < j = omega (arith, le, ne) in omega (arith, rising i j d less lt)
-]
+use Rattle.fst_heads.proofs.Halves.{not_falling}
+use Rattle.fst_heads.proofs.lists.list_from.Goals as goal
 
 pub returns : goal.returns
 returns c =
