@@ -31,7 +31,7 @@ use fst_heads::lists::{Listed, empty_lists, land_block};
 use fst_heads::places::block_of;
 use fst_heads::row::is_given;
 use fst_heads::standing::{
-    Standing, empty_standings, flying_stretch, land_at, least_marked, ready_count,
+    Standing, empty_standings, land_at, least_marked, ready_count, standing_at,
 };
 use fst_levels::ancestors::renew;
 use fst_levels::levels::Levels;
@@ -169,8 +169,8 @@ impl Sparse {
         let Some(list) = self.lists.get(block.0 as usize) else {
             return Ok(Vec::new(self.alloc));
         };
-        let ready_in = self.standings[block.0 as usize].ready_in;
-        ready_set(self.alloc, &self.columns.heads, list, ready_in, block.0)
+        let standing = self.standings[block.0 as usize];
+        ready_set(self.alloc, &self.columns.heads, list, standing, block.0)
     }
 
     // As `seal`, but what was put behind the gate stays at the top.
@@ -295,12 +295,12 @@ impl Sparse {
         ensures blocks { self.new.blocks ≡ self.old.blocks }
     {
         let_go(&mut self.prepared);
-        let flying_in = flying_stretch(&self.standings, block.0);
+        let standing = standing_at(&self.standings, block.0);
         land_block(
             &mut self.columns.heads,
             &mut self.lists,
             &mut self.columns.queue,
-            flying_in,
+            standing,
             block.0,
         );
         land_at(&mut self.standings, block.0);

@@ -1,8 +1,8 @@
--- The walk along the list of a block that lands what is in flight.
-use Rattle.fst_heads.proofs.Basics.{map-append, ◌≡◌, ◌==◌, ◌&&◌, ◌||◌, ℕ, suc, ◌<◌, Bool, true, false, not, cond, List, [], ◌∷◌, ◌++◌, map, filter, refl, sym, ap, ◌∙◌, inl, inr, subst, arith, list_any, cases_Bool, cases_eq, eq-eqb, ne_eqb, false≢true}
-use Rattle.fst_heads.proofs.Patches.{Place, is_at, is_on, is_change_at, is_among, In, In-map, filter_in, in_filter, in_among}
+-- The walk along the list of a block, from both ends by turns, that lands what is in flight.
+use Rattle.fst_heads.proofs.Basics.{map-append, or_parts, take_more_set, take-set-le, drop-set, drop-set-lt, length-take, length-drop, take-append-drop, nil_from_length, ◌≡◌, ◌==◌, ◌&&◌, ◌||◌, ◌⊎◌, ℕ, suc, ◌<◌, ◌≤◌, ◌+◌, Bool, true, false, not, cond, List, [], ◌∷◌, ◌++◌, length, map, set, take, drop, filter, refl, sym, ap, ◌∙◌, inl, inr, subst, arith, list_any, cases_Bool, cases_eq, eq-eqb, ne_eqb, false≢true, append_assoc, length-append}
+use Rattle.fst_heads.proofs.Patches.{Place, is_at, is_on, is_change_at, is_among, In, In-map, filter_in, in_filter, among_in, in_among}
 use Rattle.fst_heads.proofs.Words.{Head, Listed, lands, IsRising, patch_of, patches_of, is_live_on, entries_on, entries_of, flying_on, Node, node_of, nodes_of, at_number}
-use Rattle.fst_heads.proofs.{AtNumber.{at_other, at_same}, Linking.{none_among, rising_as}}
+use Rattle.fst_heads.proofs.{AtNumber.{at_other, at_same}, Linking.{none_among, rising_as}, Placed.map_alike}
 use Rattle.fst_heads.proofs.{Listing.{flies, lands_number, lands_still, numbers_on, numbers_above}, Passing.{passing, passes_at, passing_start}}
 use Rattle.fst_heads.proofs.Patches.place
 
@@ -36,7 +36,27 @@ rises_within before within after r =
     let behind = rises_behind (numbers_in before) (numbers_in (within ++ after)) (subst Rises (numbers_append before (within ++ after)) r) in
     rises_front (numbers_in within) (numbers_in after) (subst Rises (numbers_append within after) behind)
 
--- ns are the numbers of left but for n, the first of them
+in_last : (ns : List ℕ) (n : ℕ) → In (ns ++ n ∷ []) n
+in_last [] n = inl refl
+in_last (k ∷ ks) n = inr (in_last ks n)
+
+-- the last is greater than those before it
+below_last : (ns : List ℕ) (n : ℕ) → Rises (ns ++ n ∷ []) → (m : ℕ) → In ns m → m < n
+below_last [] n r m i = absurd i
+below_last (k ∷ ks) n r m (inl e) = subst (λ j. j < n) e (r.0 n (in_last ks n))
+below_last (k ∷ ks) n r m (inr i) = below_last ks n r.1 m i
+
+or_move : (a b c : Bool) → (a || (b || c)) ≡ (b || (a || c))
+or_move true true c = refl
+or_move true false c = refl
+or_move false true c = refl
+or_move false false c = refl
+
+among_last : (ns : List ℕ) (n m : ℕ) → is_among (ns ++ n ∷ []) m ≡ ((n == m) || is_among ns m)
+among_last [] n m = refl
+among_last (k ∷ ks) n m = ap (λ t. (k == m) || t) (among_last ks n m) ∙ or_move (k == m) (n == m) (is_among ks m)
+
+-- ns are the numbers of left but for n, the first or the last of them
 pub record Taken (left ns : List ℕ) (n : ℕ) : Type 0 where
   pub rises : Rises ns
   pub none : is_among ns n ≡ false
@@ -46,6 +66,28 @@ pub taken_front : (left ns : List ℕ) (n : ℕ) → left ≡ n ∷ ns → Rises
 taken_front left ns n e r =
     let rises : Rises (n ∷ ns) = subst Rises e r in
     record { rises = rises.1; none = none_among ns n (λ m i same. let lt = rises.0 m i in omega (arith, lt, same)); others = λ m. ap (λ ms. is_among ms m) e }
+
+pub taken_back : (left ns : List ℕ) (n : ℕ) → left ≡ ns ++ n ∷ [] → Rises left → Taken left ns n
+taken_back left ns n e r =
+    let rises : Rises (ns ++ n ∷ []) = subst Rises e r in
+    record {
+      rises = rises_front ns (n ∷ []) rises;
+      none = none_among ns n (λ m i same. let lt = below_last ns n rises m i in omega (arith, lt, same));
+      others = λ m. ap (λ ms. is_among ms m) e ∙ among_last ns n m;
+    }
+
+-- the numbers of a list, the last apart
+pub numbers_last : (list : List Listed) (l : Listed) → numbers_in (list ++ l ∷ []) ≡ numbers_in list ++ l.number ∷ []
+numbers_last list l = numbers_append list (l ∷ [])
+
+in_long : {X : Type 0} (xs : List X) (x : X) → In xs x → 0 < length xs
+in_long [] x i = absurd i
+in_long (y ∷ ys) x i = omega arith
+
+any_off : {X : Type 0} (f : X → Bool) (xs : List X) (x : X) → In xs x → list_any f xs ≡ false → f x ≡ false
+any_off f [] x i none = absurd i
+any_off f (y ∷ ys) x (inl e) none = ap f (sym e) ∙ (or_parts (f y) (list_any f ys) none).0
+any_off f (y ∷ ys) x (inr i) none = any_off f ys x i (or_parts (f y) (list_any f ys) none).1
 
 -- a change in flight is not on disk
 flight_live : (p : Place) (t : Bool) → (is_at p place.Flight && t) ≡ true → (not (is_at p place.Disk) && t) ≡ true
@@ -149,9 +191,21 @@ module _ (b : ℕ) where
         go [] = refl
         go (y ∷ ys) = let first = step_each y in let rest = go ys in cc
 
-  -- where nothing is left, all has landed
-  pub landing_all : (start heads : List Head) (left : List ℕ) → Landing start heads left → left ≡ [] → nodes_of heads ≡ map (lands b) (nodes_of start)
-  landing_all start heads left x none = x.nodes ∙ ap (λ ns. map (waits ns) (nodes_of start)) none
+  -- where no more of what is left flies, all has landed
+  pub landing_all : (start heads : List Head) (left : List ℕ) → Landing start heads left → length (filter (passes_at (flies b) (nodes_of start)) left) ≤ 0 → nodes_of heads ≡ map (lands b) (nodes_of start)
+  landing_all start heads left x few =
+      let passes = passes_at (flies b) (nodes_of start) in
+      let none : (m : ℕ) → In left m → passes m ≡ false = λ m i. elim (cases_Bool (passes m)) [
+        | inl e ↦ let long = in_long (filter passes left) m (in_filter passes left m i e) in absurd (omega (arith, long, few))
+        | inr e ↦ e
+      ] in
+      x.nodes
+      ∙ map_alike (waits left) (lands b) (nodes_of start) (λ y i. elim (cases_Bool (is_among left y.patch.number)) [
+        | inl e ↦
+            let off = any_off (λ z. (z.patch.number == y.patch.number) && flies b z) (nodes_of start) y i (none y.patch.number (among_in left y.patch.number e)) in
+            rw e (sym (lands_still b y (sym (ap (λ k. k && flies b y) (eq-eqb y.patch.number y.patch.number refl)) ∙ off)))
+        | inr e ↦ rw e refl
+      ])
 
   -- what passes of the whole list is what is in flight
   pub flying_passes : (heads : List Head) (list : List Listed) → IsRising heads → entries_of list ≡ entries_on b (patches_of heads) → passing (flies b) heads list ≡ flying_on b (patches_of heads)
@@ -164,3 +218,29 @@ module _ (b : ℕ) where
   -- a change in flight that is put on disk lands
   pub landed_node : (m h : Head) → m ≡ h → is_change_at place.Flight b (patch_of h) ≡ true → node_of (record m { place = place.Disk }) ≡ lands b (node_of h)
   landed_node m h same flying = ap (λ k. node_of (record k { place = place.Disk })) same ∙ rw flying refl
+
+-- the places of the queue below low, and those from high on, have the numbers of what was found from the front and the back
+module _ (queue middle whole : List ℕ) (low high : ℕ) (inside : high ≤ length queue) (placed : take low queue ++ (middle ++ drop high queue) ≡ whole) where
+  pub placed_front : (n : ℕ) (others : List ℕ) → middle ≡ n ∷ others → low < high → take (low + 1) (set queue low n) ++ (others ++ drop high (set queue low n)) ≡ whole
+  placed_front n others e lt =
+      rw (take_more_set queue low n (omega (arith, lt, inside)), drop-set-lt high queue low n lt)
+      (append_assoc (take low queue) (n ∷ []) (others ++ drop high queue) ∙ (ap (λ ms. take low queue ++ (ms ++ drop high queue)) (sym e) ∙ placed))
+
+  pub placed_back : (n at : ℕ) (others : List ℕ) → middle ≡ others ++ n ∷ [] → at + 1 ≡ high → low ≤ at → take low (set queue at n) ++ (others ++ drop at (set queue at n)) ≡ whole
+  placed_back n at others e next le =
+      rw (take-set-le low queue at n le, drop-set queue at n (omega (arith, next, inside)), next)
+      (ap (λ ms. take low queue ++ ms) (sym (append_assoc others (n ∷ []) (drop high queue)) ∙ ap (λ ms. ms ++ drop high queue) (sym e)) ∙ placed)
+
+  -- where all places are taken, or nothing is left, the queue has all
+  pub placed_all : low ≤ high → length whole ≡ length queue → (length middle ≤ 0) ⊎ (high ≤ low) → (length middle ≤ 0) × (queue ≡ whole)
+  placed_all le long ends =
+      let count = ap length (sym placed) in
+      let parts = length-append (take low queue) (middle ++ drop high queue) in
+      let behind = length-append middle (drop high queue) in
+      let few : length middle ≤ 0 = elim ends [
+        | inl none ↦ none
+        | inr met ↦ omega (arith, met, le, count, parts, behind, long, length-take low queue, length-drop high queue, inside)
+      ] in
+      let met : low ≡ high = omega (arith, few, le, count, parts, behind, long, length-take low queue, length-drop high queue, inside) in
+      let none : middle ≡ [] = nil_from_length middle (omega (arith, few)) in
+      (few, sym (take-append-drop low queue) ∙ (ap (λ k. take low queue ++ drop k queue) met ∙ (ap (λ ms. take low queue ++ (ms ++ drop high queue)) (sym none) ∙ placed)))

@@ -1,7 +1,7 @@
 -- The walk along the list of a block for those of its patches that pass a test.
-use Rattle.fst_heads.proofs.Basics.{drop, drop_more, get_or, ◌+◌, All, All-weaker, filter-append, AllPairs, AllPairs-filter, All-contains, All-head, All-tail, Any-from_list_any, eqb-true, false_from_ne_true, subst, common_steps, cond, IfNone, IfSome, Option, None, Some, ◌≤◌, ◌++◌, map-append, ◌≡◌, ◌==◌, ◌&&◌, ℕ, Bool, true, List, [], ◌∷◌, map, filter, length, refl, sym, ap, ◌∙◌, inr, list_any, cases_Bool, and_parts, arith, inl, suc, ◌<◌, false, append-nil, append_assoc}
+use Rattle.fst_heads.proofs.Basics.{All, All-weaker, filter-append, AllPairs, AllPairs-filter, All-contains, All-head, All-tail, Any-from_list_any, eqb-true, false_from_ne_true, subst, common_steps, cond, IfNone, IfSome, Option, None, Some, ◌≤◌, ◌++◌, reverse, reverse_onto, map-append, nil_from_length, ◌≡◌, ◌==◌, ◌&&◌, ℕ, Bool, true, List, [], ◌∷◌, map, filter, length, refl, sym, ap, ◌∙◌, inr, list_any, cases_Bool, and_parts, arith, inl, suc, ◌<◌, false, append-nil, append_assoc, length-append, map_push}
 use Rattle.fst_heads.proofs.Patches.{PatchNo, In, Contains-from_In, In-from_Contains, In-map, In-unmap, filter_in, in_filter}
-use Rattle.fst_heads.proofs.Words.{is_held_on, Head, Listed, IsRising, patches_of, entries_of, entries_on, entry, entry_of, is_live_on, Node, node_of, nodes_of, is_ready_on}
+use Rattle.fst_heads.proofs.Words.{numbers_of, is_held_on, Head, Listed, IsRising, patches_of, entries_of, entries_on, entry, entry_of, is_live_on, Node, node_of, nodes_of, is_ready_on}
 use Rattle.fst_heads.proofs.Words.{LiesIn, LieIn, Stretch}
 use Rattle.fst_heads.proofs.Stretches.{NumbersHave}
 use Rattle.fst_heads.proofs.{Listing.{any_index, numbers_on, rising_patches}, Indices.{any_default, rising_back, rising_map}}
@@ -107,15 +107,6 @@ module _ (t : Node → Bool) (heads : List Head) (rest others : List Listed) (l 
   pub passing_back : rest ≡ others ++ l ∷ [] → passing t heads rest ≡ passing t heads others ++ cond (passes_at t (nodes_of heads) l.number) (l.number ∷ []) []
   passing_back e = grind (arith, common_steps, e)
 
--- what passes of what is left of a list, by the first of that
-pub passing_step : (t : Node → Bool) (heads : List Head) (list : List Listed) (i : ℕ) (d : Listed) → i < length list
-    → passing t heads (drop i list) ≡ cond (passes_at t (nodes_of heads) (get_or list i d).number) ((get_or list i d).number ∷ passing t heads (drop (i + 1) list)) (passing t heads (drop (i + 1) list))
-passing_step t heads list i d lt = passing_front t heads (drop i list) (drop (i + 1) list) (get_or list i d) (drop_more list i d lt)
-
--- with one more that was found
-pub found_more : (found left whole : List ℕ) (n : ℕ) → found ++ (n ∷ left) ≡ whole → (found ++ n ∷ []) ++ left ≡ whole
-found_more found left whole n e = append_assoc found (n ∷ []) left ∙ e
-
 -- by whichever end it was taken
 module _ (t : Node → Bool) (heads : List Head) (rest others : List Listed) (l : Listed) (from_back : Bool) (front : from_back ≡ false → rest ≡ l ∷ others) (back : from_back ≡ true → rest ≡ others ++ l ∷ []) where
   abbrev here : Bool
@@ -126,6 +117,39 @@ module _ (t : Node → Bool) (heads : List Head) (rest others : List Listed) (l 
     | inl b ↦ passing_back t heads rest others l (back b) ∙ (ap (λ k. passing t heads others ++ cond k (l.number ∷ []) []) off ∙ append-nil (passing t heads others))
     | inr f ↦ passing_front t heads rest others l (front f) ∙ ap (λ k. cond k (l.number ∷ passing t heads others) (passing t heads others)) off
   ]
+
+  pub passing_shorter : here ≡ true → length (passing t heads rest) ≡ suc (length (passing t heads others))
+  passing_shorter on = elim (cases_Bool from_back) [
+    | inl b ↦
+        let e = ap length (passing_back t heads rest others l (back b) ∙ ap (λ k. passing t heads others ++ cond k (l.number ∷ []) []) on) in
+        omega (arith, e, length-append (passing t heads others) (l.number ∷ []))
+    | inr f ↦ ap length (passing_front t heads rest others l (front f) ∙ ap (λ k. cond k (l.number ∷ passing t heads others) (passing t heads others)) on)
+  ]
+
+-- what is found besides, at the front or at the back
+pub found_front : (front middle back whole : List ℕ) (n : ℕ) → front ++ ((n ∷ middle) ++ back) ≡ whole → (front ++ n ∷ []) ++ (middle ++ back) ≡ whole
+found_front front middle back whole n e = append_assoc front (n ∷ []) (middle ++ back) ∙ e
+
+pub found_back : (front middle back whole : List ℕ) (n : ℕ) → front ++ ((middle ++ n ∷ []) ++ back) ≡ whole → front ++ (middle ++ (n ∷ back)) ≡ whole
+found_back front middle back whole n e = ap (λ k. front ++ k) (sym (append_assoc middle (n ∷ []) back)) ∙ e
+
+pub numbers_push : (front : List PatchNo) (p : PatchNo) → numbers_of (front ++ p ∷ []) ≡ numbers_of front ++ p.0 ∷ []
+numbers_push front p = map_push (λ (n : PatchNo). n.0) front p
+
+pub numbers_turned : (back : List PatchNo) (p : PatchNo) → reverse (numbers_of (back ++ p ∷ [])) ≡ p.0 ∷ reverse (numbers_of back)
+numbers_turned back p = grind (arith, common_steps, reverse_onto, numbers_push back p)
+
+-- where one of those that are left passes, there is one
+pub found_some : (front back : List ℕ) (middle whole : List ℕ) (k : ℕ) → front ++ (middle ++ back) ≡ whole → length middle ≡ suc k → 0 < length whole
+found_some front back middle whole k e some = omega (arith, ap length e, length-append front (middle ++ back), length-append middle back, some)
+
+numbers_reversed : (back : List PatchNo) → numbers_of (reverse back) ≡ reverse (numbers_of back)
+numbers_reversed [] = refl
+numbers_reversed (x ∷ xs) = grind (arith, reverse_onto, map-append, numbers_reversed xs)
+
+-- what was found from the front, and, newest first, from the back: that is all, where no more of the middle passes
+pub all_found : (front back : List PatchNo) (middle whole : List ℕ) → numbers_of front ++ (middle ++ reverse (numbers_of back)) ≡ whole → length middle ≤ 0 → numbers_of (front ++ reverse back) ≡ whole
+all_found front back middle whole found few = grind (arith, map-append, numbers_reversed, nil_from_length, found)
 
 -- the number, if there is one, is the first of these
 abbrev pub IsFirst : Option PatchNo → List ℕ → Type 0

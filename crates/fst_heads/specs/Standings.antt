@@ -56,6 +56,10 @@ NoneBelow standings least = (b : ℕ) (d : Standing) → b < least → may_be_wr
 abbrev pub AreMarked : List Patch → ℕ → List Standing → Type 0
 AreMarked patches blocks standings = (b : ℕ) (d : Standing) → b < blocks → IsTrue (may_be_written (slice_index_or standings b d)) ↔ IsWritable patches b
 
+-- as a block without changes stands
+abbrev pub without_changes : Standing
+without_changes = record { ready = 0; held = 0; flying = 0; held_from = 0; ready_in = nowhere; flying_in = nowhere }
+
 -- with a change more that is ready, which has the number
 abbrev pub readied : ℕ → Standing → Standing
 readied number s = record s { ready = s.ready + 1; ready_in = widened number s.ready_in }

@@ -17,7 +17,6 @@ use crate::lists::{Listed, list_from, list_in};
 use crate::pending::is_of_block;
 use crate::places::is_change_at;
 use crate::standing::Standing;
-use crate::stretch::Stretch;
 use crate::turns::next_in_turn;
 use fst_types::{Fault, Grade, PatchNo, Place};
 use std::alloc::Global;
@@ -39,29 +38,52 @@ fn is_ready_at(heads: &Heads, number: u32, block: u32) -> bool
     }
 }
 
-/// The writable set of a block, in order of number. The list has the changes of the block that are not on disk. Those that
-/// wait for changes of the block in memory alone lie in the stretch: no others are looked at.
+/// The writable set of a block, in order of number. The list has the changes of the block that are not on disk. No more of
+/// them wait for changes of the block in memory alone than the standing counts, and these lie in its stretch: they are
+/// looked for there alone, from both ends of it, and where so many are found, no others are looked at.
 pub fn ready_set(
     alloc: Global,
     heads: &Heads,
     list: &[Listed],
-    ready_in: Stretch,
+    standing: Standing,
     block: u32,
 ) -> Result<Vec<PatchNo>, Fault>
     requires listed { entries_of list.now ≡ entries_on block (patches_of heads.now.list.items) }
-    requires lie { LieIn (is_ready_on block) (nodes_of heads.now.list.items) ready_in }
+    requires ready { length (ready_on block (nodes_of heads.now.list.items)) ≤ standing.ready }
+    requires lie { LieIn (is_ready_on block) (nodes_of heads.now.list.items) standing.ready_in }
     ensures ok { IfOk result (λ numbers. numbers_of numbers.items ≡ ready_on block (nodes_of heads.now.list.items)) }
     ensures refused { IfErr result (λ f. (0 < length (ready_on block (nodes_of heads.now.list.items))) × (f ≡ fault.Memory)) }
 {
-    let mut numbers = Vec::new(alloc);
-    for listed in list_in(list, ready_in) {
+    let mut front = Vec::new(alloc);
+    // What was found from the end of the stretch, the newest first.
+    let mut back = Vec::new(alloc);
+    let mut rest = list_in(list, standing.ready_in);
+    let mut left = standing.ready;
+    let mut from_back = false;
+    while left > 0 {
+        let Some((listed, others)) = next_in_turn(rest, from_back) else {
+            break;
+        };
         if is_ready_at(heads, listed.number, block) {
-            let Ok(()) = numbers.push(PatchNo(listed.number)) else {
-                return Err(Fault::Memory);
+            let no = PatchNo(listed.number);
+            let kept = if from_back {
+                back.push(no)
+            } else {
+                front.push(no)
             };
+            if kept.is_err() {
+                return Err(Fault::Memory);
+            }
+            left -= 1;
         }
+        rest = others;
+        from_back = !from_back;
     }
-    Ok(numbers)
+    back.reverse();
+    match front.append(&mut back) {
+        Ok(()) => Ok(front),
+        Err(_) => Err(Fault::Memory),
+    }
 }
 
 // Whether the patch is a hard change of the block in memory that waits for more.

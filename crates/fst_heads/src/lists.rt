@@ -16,7 +16,9 @@ ghost use Rattle.fst_types.specs.declared.place.Place.TheVariants as place;
 use crate::heads::Heads;
 use crate::places::is_change_at;
 use crate::row::has_number;
+use crate::standing::Standing;
 use crate::stretch::Stretch;
+use crate::turns::next_in_turn;
 use fst_types::{Place, Span};
 use std::alloc::{AllocError, Global};
 
@@ -72,27 +74,57 @@ fn land_number(heads: &mut Heads, number: u32, block: u32) -> bool
     false
 }
 
-// What is in flight among the listed is on disk, and waits in the queue, in order. It lies in the stretch: no others are
+// So many places in the queue.
+fn make_places(queue: &mut Vec<u32>, many: usize)
+    requires idle { queue.old.items ≡ [] }
+    requires room { many ≤ vec_capacity queue.old }
+    ensures len { length queue.new.items ≡ many }
+    ensures capacity { vec_capacity queue.new ≡ vec_capacity queue.old }
+{
+    for _ in 0..many {
+        queue.push_reserved(0);
+    }
+}
+
+// What is in flight among the listed is on disk, and waits in the queue, in order. As many fly as the standing counts, and
+// they lie in its stretch: they are looked for there alone, from both ends of it, and where they are found, no others are
 // looked at.
 fn land_listed(
     heads: &mut Heads,
     list: &[Listed],
     queue: &mut Vec<u32>,
-    flying_in: Stretch,
+    standing: Standing,
     block: u32,
 )
     requires listed { entries_of list.now ≡ entries_on block (patches_of heads.old.list.items) }
-    requires lie { LieIn (is_flying_on block) (nodes_of heads.old.list.items) flying_in }
+    requires flying { length (flying_on block (patches_of heads.old.list.items)) ≡ standing.flying }
+    requires lie { LieIn (is_flying_on block) (nodes_of heads.old.list.items) standing.flying_in }
     requires idle { queue.old.items ≡ [] }
     requires room { length heads.old.list.items ≤ vec_capacity queue.old }
     ensures nodes { nodes_of heads.new.list.items ≡ map (lands block) (nodes_of heads.old.list.items) }
     ensures queued { queue.new.items ≡ flying_on block (patches_of heads.old.list.items) }
     ensures capacity { vec_capacity queue.new ≡ vec_capacity queue.old }
 {
-    for listed in list_in(list, flying_in) {
+    make_places(queue, standing.flying);
+    let mut low = 0;
+    let mut high = standing.flying;
+    let mut rest = list_in(list, standing.flying_in);
+    let mut from_back = false;
+    while low < high {
+        let Some((listed, others)) = next_in_turn(rest, from_back) else {
+            break;
+        };
         if land_number(heads, listed.number, block) {
-            queue.push_reserved(listed.number);
+            if from_back {
+                high -= 1;
+                queue[high] = listed.number;
+            } else {
+                queue[low] = listed.number;
+                low += 1;
+            }
         }
+        rest = others;
+        from_back = !from_back;
     }
 }
 
@@ -104,17 +136,19 @@ fn drop_landed(list: &mut Vec<Listed>, landed: &[u32])
     list.retain(|listed| !has_number(landed, listed.number));
 }
 
-/// What is in flight of the block is on disk, and waits in the queue. It lies in the stretch.
+/// What is in flight of the block is on disk, and waits in the queue. As many of its changes fly as the standing counts, and
+/// they lie in its stretch.
 pub fn land_block(
     heads: &mut Heads,
     lists: &mut Vec<Vec<Listed>>,
     queue: &mut Vec<u32>,
-    flying_in: Stretch,
+    standing: Standing,
     block: u32,
 )
     requires inside { IsInside (patches_of heads.old.list.items) (length lists.old.items) }
     requires listed { AreListed (patches_of heads.old.list.items) (length lists.old.items) (map (λ l. entries_of l.items) lists.old.items) }
-    requires lie { LieIn (is_flying_on block) (nodes_of heads.old.list.items) flying_in }
+    requires flying { length (flying_on block (patches_of heads.old.list.items)) ≡ standing.flying }
+    requires lie { LieIn (is_flying_on block) (nodes_of heads.old.list.items) standing.flying_in }
     requires idle { queue.old.items ≡ [] }
     requires room { length heads.old.list.items ≤ vec_capacity queue.old }
     ensures nodes { nodes_of heads.new.list.items ≡ map (lands block) (nodes_of heads.old.list.items) }
@@ -123,7 +157,7 @@ pub fn land_block(
     ensures capacity { vec_capacity queue.new ≡ vec_capacity queue.old }
 {
     if let Some(list) = lists.get_mut(block as usize) {
-        land_listed(heads, list, queue, flying_in, block);
+        land_listed(heads, list, queue, standing, block);
         drop_landed(list, queue);
     }
 }

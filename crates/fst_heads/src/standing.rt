@@ -10,8 +10,7 @@ ghost use Rattle.fst_heads.specs.Frames.{frames_of};
 ghost use Rattle.fst_heads.specs.Heads.{kind_of};
 ghost use Rattle.fst_heads.specs.Nodes.{Node, nodes_of, at_number};
 ghost use Rattle.fst_heads.specs.Spreading.{now, IsStale, recorded};
-ghost use Rattle.fst_heads.specs.Standings.{AllStand, NoneBelow, may_be_written, readied, released, entered, sent, arrived};
-ghost use Rattle.fst_heads.specs.Stretches.{nowhere};
+ghost use Rattle.fst_heads.specs.Standings.{AllStand, NoneBelow, without_changes, may_be_written, readied, released, entered, sent, arrived};
 ghost use Rattle.fst_heads.specs.Tests.{is_hard_kind};
 
 use crate::cascade::pending_now;
@@ -37,6 +36,20 @@ pub struct Standing {
 }
 
 impl Standing {
+    /// As a block without changes stands.
+    pub fn without_changes() -> Standing
+        ensures { result ≡ without_changes }
+    {
+        Standing {
+            ready: 0,
+            held: 0,
+            flying: 0,
+            held_from: 0,
+            ready_in: Stretch::nowhere(),
+            flying_in: Stretch::nowhere(),
+        }
+    }
+
     /// The mark of the block: whether it may be written.
     pub fn may_be_written(&self) -> bool
         ensures { result ≡ may_be_written self.now }
@@ -117,14 +130,14 @@ pub fn ready_count(standings: &[Standing], block: u32) -> usize
     }
 }
 
-/// Between which numbers the changes of the block in flight lie.
-pub fn flying_stretch(standings: &[Standing], block: u32) -> Stretch
-    ensures inside { (d : Standing) → block < length standings.now → result ≡ (slice_index_or standings.now block d).flying_in }
-    ensures outside { length standings.now ≤ block → result ≡ nowhere }
+/// How the block stands, without changes where it is none of the blocks.
+pub fn standing_at(standings: &[Standing], block: u32) -> Standing
+    ensures inside { (d : Standing) → block < length standings.now → result ≡ slice_index_or standings.now block d }
+    ensures outside { length standings.now ≤ block → result ≡ without_changes }
 {
     match standings.get(block as usize) {
-        Some(standing) => standing.flying_in,
-        None => Stretch::nowhere(),
+        Some(standing) => *standing,
+        None => Standing::without_changes(),
     }
 }
 
@@ -148,14 +161,7 @@ pub fn least_marked(standings: &[Standing], unmarked: usize) -> Option<BlockNo>
 pub fn empty_standings(alloc: Global, blocks: u32) -> Result<Vec<Standing>, AllocError>
     ensures { IfOk result (λ standings. AllStand [] blocks standings.items) }
 {
-    vec![in alloc; Standing {
-        ready: 0,
-        held: 0,
-        flying: 0,
-        held_from: 0,
-        ready_in: Stretch::nowhere(),
-        flying_in: Stretch::nowhere(),
-    }; blocks as usize]
+    vec![in alloc; Standing::without_changes(); blocks as usize]
 }
 
 /// Records what is pending of the head at the index, of which its dependants have to be notified. Answers what was recorded

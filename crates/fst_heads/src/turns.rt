@@ -1,5 +1,6 @@
-//! Going through the list of a block from both ends by turns. The changes that a call looks for mostly stand near one end of
-//! it: they are the oldest, or the newest. By turns it looks at no more than twice as many as the shorter way has.
+//! Going through the list of a block, or a part of it, from both ends by turns. The changes that a call looks for mostly
+//! stand near its ends: they are the oldest, or the newest, or some of each with many that wait between. A call that knows
+//! how many there are stops where it has found them, and has then looked at no more than twice as many as it had to.
 
 ghost use Rattle.std.specs.Prelude.{◌≡◌, ◌∷◌, ◌++◌, [], true, false, IfSome, IfNone};
 

@@ -1,4 +1,4 @@
-use Rattle.fst_heads.proofs.{Basics.{◌≡◌, ◌∙◌, List, Vec, Global, not, map, filter, length, refl, sym, ap, arith, map-set, false≢true, rules}, Patches.is_among}
+use Rattle.fst_heads.proofs.{Basics.{◌≡◌, ◌∙◌, List, Vec, Global, not, map, filter, length, refl, sym, ap, arith, map-set, false≢true}, Patches.is_among}
 use Rattle.fst_heads.proofs.Words.{Listed, patches_of, Entry, entries_of, entries_on}
 use Rattle.fst_heads.proofs.Listing.{listed_landed, flying_rise, listed_at, rising_patches, heads_landed, nothing_lands, nothing_flies, is_off}
 use Rattle.fst_heads.proofs.lists.land_block.Goals as goal
@@ -7,7 +7,9 @@ pub land_listed-requires-clause-listed : goal.land_listed-requires-clause-listed
 land_listed-requires-clause-listed c = grind (arith, listed_at)
 
 pub drop_landed-requires : goal.drop_landed-requires
-drop_landed-requires c = search (rules, flying_rise, rising_patches)
+drop_landed-requires c =
+    let heads = c.args.heads.now.list.items in
+    rw (c.deref-in-Some.ensures.value, c.land_listed.ensures.queued) (flying_rise c.args.block (patches_of heads) (rising_patches heads c.args.heads.now.rising))
 
 pub returns-in-Some-clause-listed : goal.returns-in-Some-clause-listed
 returns-in-Some-clause-listed c =

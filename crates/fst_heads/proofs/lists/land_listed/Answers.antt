@@ -1,87 +1,94 @@
-use Rattle.fst_heads.proofs.{Basics.{◌≡◌, ◌+◌, ◌∙◌, ◌∷◌, ◌++◌, length, cond, drop, drop_all, drop_more, get_or, append-nil, length-append, refl, sym, ap, subst, arith}, Words.{Listed, nodes_of, patches_of, flying_on}}
-use Rattle.fst_heads.proofs.{Listing.{flies, flying_few}, Passing.{passing, passes_at, passing_step, passing_within, found_more, rising_list}}
-use Rattle.fst_heads.proofs.Landing.{Taken, taken_front, numbers_in, landing_begins, landing_flies, landing_step, landing_all, flying_passes}
+use Rattle.fst_heads.proofs.{Basics.{take, drop, ◌-◌, length-set, ◌≡◌, ◌≤◌, ◌∙◌, ◌∷◌, ◌++◌, [], length, cond, drop_all, append-nil, refl, sym, ap, arith, cases_Bool, inl, inr}, Words.{nodes_of, patches_of, flying_on}}
+use Rattle.fst_heads.proofs.{Listing.{flies, flying_few}, Passing.{passing, passes_at, passing_within, passing_front, passing_back, rising_list}}
+use Rattle.fst_heads.proofs.Landing.{Taken, taken_front, taken_back, numbers_in, numbers_last, landing_begins, landing_flies, landing_step, landing_all, flying_passes, placed_front, placed_back, placed_all}
 use Rattle.fst_heads.proofs.lists.land_listed.Goals as goal
-use Rattle.fst_heads.proofs.lists.land_listed.Goals.{After-land_number, then-land_number, else-land_number}
+use Rattle.fst_heads.proofs.lists.land_listed.Goals.{then-land_number+then-from_back, then-land_number+else-from_back, else-land_number}
 
-pub list_in-listed-items-requires : goal.list_in-listed-items-requires
-list_in-listed-items-requires c = rising_list c.args.block c.args.heads.now.list.items c.args.list.now c.args.heads.now.rising c.requires.listed
+pub make_places-requires-clause-room : goal.make_places-requires-clause-room
+make_places-requires-clause-room c = omega (arith, flying_few c.args.block c.args.heads.now.list.items, c.requires.flying, c.requires.room)
 
-pub loop-listed-init : goal.loop-listed-init
-loop-listed-init c =
+pub list_in-rest-requires : goal.list_in-rest-requires
+list_in-rest-requires c = rising_list c.args.block c.args.heads.now.list.items c.args.list.now c.args.heads.now.rising c.requires.listed
+
+pub loop-low-init : goal.loop-low-init
+loop-low-init c =
     let heads = c.args.heads.now.list.items in
     let b = c.args.block in
     let list = c.args.list.now in
-    let near = c.list_in-listed-items.result.now in
-    let parts = c.list_in-listed-items.ensures in
-    let all = passing_within (flies b) heads c.args.flying_in c.requires.lie list parts.0 near parts.1 parts.2 parts.3 parts.4 ∙ flying_passes b heads list c.args.heads.now.rising c.requires.listed in
+    let rest = c.list_in-rest.result.now in
+    let parts = c.list_in-rest.ensures in
+    let queue = c.make_places.new.queue.items in
+    let all = passing_within (flies b) heads c.args.standing.flying_in c.requires.lie list parts.0 rest parts.1 parts.2 parts.3 parts.4 ∙ flying_passes b heads list c.args.heads.now.rising c.requires.listed in
     record {
-      landing = landing_begins b heads list parts.0 near parts.1 c.args.heads.now.rising c.requires.listed parts.2 all;
-      queued = rw c.requires.idle all;
+      landing = landing_begins b heads list parts.0 rest parts.1 c.args.heads.now.rising c.requires.listed parts.2 all;
+      placed = rw (drop_all c.args.standing.flying queue (omega (arith, c.make_places.ensures.len))) (append-nil (passing (flies b) heads rest) ∙ all);
+      long = c.make_places.ensures.len;
+      ends = (omega arith, omega arith);
       capacity = refl;
     }
 
-abbrev nothing : Listed
-nothing = record { number = 0; span = record { at = 0; len = 0 } }
-
--- the change that is looked at is the first of those that are left
-taken : (c : After-land_number) → Taken (numbers_in (drop c.loop-listed.listed-index c.list_in-listed-items.result.now)) (numbers_in (drop (c.loop-listed.listed-index + 1) c.list_in-listed-items.result.now))
-    (get_or c.list_in-listed-items.result.now c.loop-listed.listed-index nothing).number
-taken c = taken_front _ _ _ (ap numbers_in (drop_more c.list_in-listed-items.result.now c.loop-listed.listed-index nothing c.loop-listed-test.true)) c.loop-listed.invariant.landing.rises
-
--- and flies exactly where it did before the walk
-passes : (c : After-land_number) → passes_at (flies c.args.block) (nodes_of c.args.heads.now.list.items) (get_or c.list_in-listed-items.result.now c.loop-listed.listed-index nothing).number ≡ c.land_number.result
-passes c = sym (c.land_number.ensures.flew ∙ landing_flies c.args.block c.args.heads.now.list.items c.loop-listed.heads.list.items _ _ _ c.loop-listed.invariant.landing (taken c))
-
-pub push_reserved-requires : goal.push_reserved-requires
-push_reserved-requires c =
+pub loop-low-preserved : goal.loop-low-preserved
+loop-low-preserved c =
     let b = c.args.block in
-    let heads = c.args.heads.now.list.items in
-    let near = c.list_in-listed-items.result.now in
-    let i = c.loop-listed.listed-index in
-    let n = (get_or near i nothing).number in
-    let left = passing (flies b) heads (drop (i + 1) near) in
-    let at = (goal.at.push_reserved-requires c).After-land_number in
-    let next = passing_step (flies b) heads near i nothing c.loop-listed-test.true ∙ ap (λ t. cond t (n ∷ left) left) (passes at ∙ c.if-land_number.true) in
-    let queue = c.loop-listed.queue in
-    omega (arith, ap length c.loop-listed.invariant.queued, ap length next, length-append queue.items (passing (flies b) heads (drop i near)), flying_few b heads, c.requires.room, c.loop-listed.invariant.capacity, queue.ok.0)
-
-pub loop-listed-preserved : goal.loop-listed-preserved
-loop-listed-preserved c =
-    let b = c.args.block in
-    let heads = c.args.heads.now.list.items in
-    let near = c.list_in-listed-items.result.now in
-    let i = c.loop-listed.listed-index in
-    let n = (get_or near i nothing).number in
-    let left = passing (flies b) heads (drop (i + 1) near) in
-    let whole = flying_on b (patches_of heads) in
-    let queue = c.loop-listed.queue.items in
-    let I = c.loop-listed.invariant in
-    let at = (goal.at.loop-listed-preserved c).After-land_number in
-    let step = passing_step (flies b) heads near i nothing c.loop-listed-test.true ∙ ap (λ t. cond t (n ∷ left) left) (passes at) in
-    let landing = landing_step b heads c.loop-listed.heads.list.items _ _ n I.landing (taken at) c.land_number.new.heads.list.items c.land_number.ensures.nodes in
+    let start = c.args.heads.now.list.items in
+    let heads = c.loop-low.heads.list.items in
+    let rest = c.loop-low.rest.now in
+    let others = c.in-Some.others.now in
+    let n = c.in-Some.listed.number in
+    let I = c.loop-low.invariant in
+    let left = numbers_in rest in
+    let ns = numbers_in others in
+    let t : Taken left ns n = elim (cases_Bool c.loop-low.from_back) [
+      | inl e ↦ taken_back left ns n (ap numbers_in (c.in-Some.ensures.back e) ∙ numbers_last others c.in-Some.listed) I.landing.rises
+      | inr e ↦ taken_front left ns n (ap numbers_in (c.in-Some.ensures.front e)) I.landing.rises
+    ] in
+    let passes : passes_at (flies b) (nodes_of start) n ≡ c.land_number.result = sym (c.land_number.ensures.flew ∙ landing_flies b start heads left ns n I.landing t) in
+    let landing = landing_step b start heads left ns n I.landing t c.land_number.new.heads.list.items c.land_number.ensures.nodes in
+    let ps = passing (flies b) start others in
+    let queue = c.loop-low.queue.items in
+    let whole = flying_on b (patches_of start) in
+    let inside : c.loop-low.high ≤ length queue = omega (arith, I.long, I.ends.1) in
     elim c.if-land_number.branch [
-      | then-land_number w ↦
-          let next = step ∙ ap (λ t. cond t (n ∷ left) left) w.if-land_number.true in
-          rw w.queue-is record {
+      | then-land_number+then-from_back w ↦
+          let at = c.loop-low.high - 1 in
+          let next = passing_back (flies b) start rest others c.in-Some.listed (c.in-Some.ensures.back w.if-from_back.true) ∙ ap (λ t. ps ++ cond t (n ∷ []) []) (passes ∙ w.if-land_number.true) in
+          rw (w.queue-is, w.low-is, w.high-is) record {
             landing = landing;
-            queued = rw w.push_reserved.ensures.items (found_more queue left whole n (subst (λ ns. queue ++ ns ≡ whole) next I.queued));
-            capacity = w.push_reserved.ensures.capacity ∙ I.capacity;
+            placed = placed_back queue _ whole c.loop-low.low c.loop-low.high inside I.placed n at ps next (omega (arith, c.loop-low-test.true)) (omega (arith, c.loop-low-test.true));
+            long = length-set queue at n ∙ I.long;
+            ends = (omega (arith, c.loop-low-test.true), omega (arith, I.ends.1));
+            capacity = I.capacity;
+          }
+      | then-land_number+else-from_back w ↦
+          let next = passing_front (flies b) start rest others c.in-Some.listed (c.in-Some.ensures.front w.if-from_back.false) ∙ ap (λ t. cond t (n ∷ ps) ps) (passes ∙ w.if-land_number.true) in
+          rw (w.queue-is, w.low-is, w.high-is) record {
+            landing = landing;
+            placed = placed_front queue _ whole c.loop-low.low c.loop-low.high inside I.placed n ps next c.loop-low-test.true;
+            long = length-set queue c.loop-low.low n ∙ I.long;
+            ends = (omega (arith, c.loop-low-test.true), I.ends.1);
+            capacity = I.capacity;
           }
       | else-land_number w ↦
-          let next = step ∙ ap (λ t. cond t (n ∷ left) left) w.if-land_number.false in
-          rw w.queue-is record { landing = landing; queued = subst (λ ns. queue ++ ns ≡ whole) next I.queued; capacity = I.capacity }
+          let off = passes ∙ w.if-land_number.false in
+          let same : passing (flies b) start rest ≡ ps = elim (cases_Bool c.loop-low.from_back) [
+            | inl e ↦ passing_back (flies b) start rest others c.in-Some.listed (c.in-Some.ensures.back e) ∙ (ap (λ t. ps ++ cond t (n ∷ []) []) off ∙ append-nil ps)
+            | inr e ↦ passing_front (flies b) start rest others c.in-Some.listed (c.in-Some.ensures.front e) ∙ ap (λ t. cond t (n ∷ ps) ps) off
+          ] in
+          rw (w.queue-is, w.low-is, w.high-is) record {
+            landing = landing;
+            placed = ap (λ ms. take c.loop-low.low queue ++ (ms ++ drop c.loop-low.high queue)) (sym same) ∙ I.placed;
+            long = I.long;
+            ends = I.ends;
+            capacity = I.capacity;
+          }
     ]
 
-pub returns-clause-nodes : goal.returns-clause-nodes
-returns-clause-nodes c =
-    landing_all c.args.block c.args.heads.now.list.items c.loop-listed.heads.list.items _ c.loop-listed.invariant.landing
-    (ap numbers_in (drop_all c.loop-listed.listed-index c.list_in-listed-items.result.now c.loop-listed-test.false))
-
-pub returns-clause-queued : goal.returns-clause-queued
-returns-clause-queued c =
+pub returns-after-loop-low-clause-nodes : goal.returns-after-loop-low-clause-nodes
+returns-after-loop-low-clause-nodes c =
     let b = c.args.block in
-    let heads = c.args.heads.now.list.items in
-    let queue = c.loop-listed.queue.items in
-    let none = drop_all c.loop-listed.listed-index c.list_in-listed-items.result.now c.loop-listed-test.false in
-    sym (append-nil queue) ∙ subst (λ ls. queue ++ passing (flies b) heads ls ≡ flying_on b (patches_of heads)) none c.loop-listed.invariant.queued
+    let start = c.args.heads.now.list.items in
+    let queue = c.loop-low.queue.items in
+    let I = c.loop-low.invariant in
+    let inside : c.loop-low.high ≤ length queue = omega (arith, I.long, I.ends.1) in
+    let all = placed_all queue _ (flying_on b (patches_of start)) c.loop-low.low c.loop-low.high inside I.placed I.ends.0 (c.requires.flying ∙ sym I.long) (inr c.loop-low-test.false) in
+    landing_all b start c.loop-low.heads.list.items _ I.landing all.0

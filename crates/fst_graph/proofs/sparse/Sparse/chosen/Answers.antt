@@ -1,8 +1,10 @@
-use Rattle.std.proofs.Common.{[], refl, subst, sym, arith}
+use Rattle.std.proofs.Common.{[], refl, ◌∙◌, ◌<◌, ap, subst, sym, arith}
 use Rattle.fst_heads.specs.{Heads.patches_of, Names.numbers_of, Nodes.nodes_of, Standings.is_ready_on, Stretches.LieIn, declared.standing.Standing.Standing}
+use Rattle.fst_heads.proofs.Counts.{ready_counted}
 use Rattle.fst_levels.proofs.Resting.{empty_set, chosen_ready, chosen_refused}
 use Rattle.fst_graph.proofs.{Flagged.unspared, Grouped.{failed, fine}, RememberedLooks.{choice, ready}}
 use Rattle.fst_graph.proofs.Sound.{its_list, many_lists, view_gone, with_prepared}
+use Rattle.fst_graph.proofs.sparse.Sparse.chosen.Goals.{After-deref-2}
 use Rattle.fst_graph.proofs.sparse.Sparse.chosen.Goals as goal
 
 pub ready_set-requires-clause-listed : goal.ready_set-requires-clause-listed
@@ -10,13 +12,25 @@ ready_set-requires-clause-listed c =
     rw c.deref-2.ensures.value
     (its_list c.self.invariant.0 c.deref.result.now c.deref.ensures.value c.args.block.0 c.in-Some.ensures.lookup.3.0 c.in-Some.list.now c.in-Some.ensures.lookup.1)
 
+-- the block is one of those that there are
+within : (c : After-deref-2) → c.args.block.0 < c.self.inside.blocks
+within c =
+    let lt = c.in-Some.ensures.lookup.3.0 in
+    let many = many_lists c.self.invariant.0 c.deref.result.now c.deref.ensures.value in
+    omega (arith, lt, many)
+
+pub ready_set-requires-clause-ready : goal.ready_set-requires-clause-ready
+ready_set-requires-clause-ready c =
+    let b = c.args.block.0 in
+    let own = c.index-standing.result.now in
+    let ready = ap (λ (s : Standing). s.ready) (c.index-standing.ensures ∙ c.self.invariant.0.tallies.standing.each b own (within c)) in
+    omega (arith, ready_counted b (nodes_of c.self.inside.columns.heads.list.items), ready)
+
 pub ready_set-requires-clause-lie : goal.ready_set-requires-clause-lie
 ready_set-requires-clause-lie c =
     let b = c.args.block.0 in
-    let many = many_lists c.self.invariant.0 c.deref.result.now c.deref.ensures.value in
-    let lt = c.in-Some.ensures.lookup.3.0 in
-    let lie = c.self.invariant.0.tallies.standing.lie b c.index.result.now (omega (arith, lt, many)) in
-    subst (λ (s : Standing). LieIn (is_ready_on b) (nodes_of c.self.inside.columns.heads.list.items) s.ready_in) (sym c.index.ensures) lie.ready
+    let own = c.index-standing.result.now in
+    subst (λ (s : Standing). LieIn (is_ready_on b) (nodes_of c.self.inside.columns.heads.list.items) s.ready_in) (sym c.index-standing.ensures) (c.self.invariant.0.tallies.standing.lie b own (within c)).ready
 
 pub returns-in_default-clause-ok : goal.returns-in_default-clause-ok
 returns-in_default-clause-ok c =

@@ -1,9 +1,9 @@
-use Rattle.std.proofs.{Common.{vec_capacity, [], rules, ◌≡◌, ◌∙◌, inl, inr, get_or, map, sym, ap, subst, length, arith, refl}, lemmas.Bool.cases_lt, lemmas.List.length-map}
+use Rattle.std.proofs.{Common.{vec_capacity, [], rules, ◌≡◌, ◌<◌, ◌∙◌, inl, inr, count_by, get_or, map, sym, ap, subst, length, arith, refl}, lemmas.Bool.cases_lt, lemmas.List.length-map}
 use Rattle.fst_types.specs.{Cascade.IsCascadeOf, Writing.landed}
-use Rattle.fst_heads.specs.{Heads.patches_of, Keeps.{IsInside, Tallies}, Lists.{entries_of, AreListed}, Nodes.{is_forgotten_in, node_of, nodes_of, patches_in, AreSettled}, Spreading.{IsSpreadOf, lands}, Standings.{AllStand, is_flying_on}, Stretches.LieIn}
+use Rattle.fst_heads.specs.{Heads.patches_of, Keeps.{IsInside, Tallies}, Lists.{entries_of, AreListed}, Nodes.{is_forgotten_in, node_of, nodes_of, patches_in, AreSettled}, Spreading.{IsSpreadOf, lands}, Standings.{AllStand, is_flying_on}, Stretches.LieIn, declared.standing.Standing.Standing}
 use Rattle.fst_types.proofs.Landing.{alike_landed}
 use Rattle.fst_heads.proofs.{AtNumber.patches_in_nodes, Beside.{beside_landed, landed_few}, Carried.{linked_landed, distinct_landed}}
-use Rattle.fst_heads.proofs.{Landed.landed_map, Starting.{starts_landed, patches_landed}}
+use Rattle.fst_heads.proofs.{Counts.flying_counted, Landed.landed_map, Listing.{nothing_flies, is_off}, Starting.{starts_landed, patches_landed}}
 use Rattle.fst_levels.proofs.{Resting.none_yet, Seen.{seen, lawful_nodes}, Shelves.shelved}
 use Rattle.fst_graph.specs.Sound.{remembered_of}
 use Rattle.fst_graph.proofs.{Borne.{inside_nodes, none_outside, stand_land}, Flagged.{flags_map, flags_of, flags_spread, remembered_as, remembered_still}, Kept.{covered_moved, keeps_landed}, NeedsNow.needing_landed}
@@ -12,26 +12,36 @@ use Rattle.fst_graph.proofs.{Tallied.tallies_landed, sparse.Sparse.land.Goals.Af
 use Rattle.fst_graph.proofs.sparse.Sparse.land.Goals as goal
 
 pub land_block-requires : goal.land_block-requires
-land_block-requires c = record {
-  inside = subst (IsInside (patches_of c.self.inside.columns.heads.list.items)) (sym (as_many_lists c.self.invariant.0)) c.self.invariant.0.keeps.inside;
-  listed =
-      let lists = c.self.inside.lists.items in
-      let long = sym (as_many_lists c.self.invariant.0) in
-      subst (λ ps. AreListed ps (length lists) (shelved lists)) (patches_in_nodes c.self.inside.columns.heads.list.items) (subst (λ n. AreListed (patches_in (nodes_of c.self.inside.columns.heads.list.items)) n (shelved lists)) long c.self.invariant.0.tallies.listed);
-  lie =
-      let s = c.self.inside in
-      let heads = s.columns.heads.list.items in
-      let b = c.args.block.0 in
-      let S = c.self.invariant.0 in
-      elim (cases_lt b s.blocks) [
+land_block-requires c =
+    let s = c.self.inside in
+    let heads = s.columns.heads.list.items in
+    let b = c.args.block.0 in
+    let S = c.self.invariant.0 in
+    let T = S.tallies in
+    let own = c.standing_at-standing in
+    let told : b < s.blocks → own.result ≡ get_or s.standings.items b none_yet = λ inside.
+    own.ensures.inside none_yet (rw c.deref.ensures.value (omega (arith, inside, T.standing.long))) ∙ ap (λ xs. get_or xs b none_yet) c.deref.ensures.value in
+    record {
+      inside = subst (IsInside (patches_of heads)) (sym (as_many_lists S)) S.keeps.inside;
+      listed =
+          let lists = s.lists.items in
+          let long = sym (as_many_lists S) in
+          subst (λ ps. AreListed ps (length lists) (shelved lists)) (patches_in_nodes heads) (subst (λ n. AreListed (patches_in (nodes_of heads)) n (shelved lists)) long T.listed);
+      flying = elim (cases_lt b s.blocks) [
         | inl inside ↦
-            let told = c.flying_stretch-flying_in.ensures.inside none_yet (rw c.deref.ensures.value (omega (arith, inside, S.tallies.standing.long))) ∙ ap (λ xs. (get_or xs b none_yet).flying_in) c.deref.ensures.value in
-            subst (LieIn (is_flying_on b) (nodes_of heads)) (sym told) (S.tallies.standing.lie b none_yet inside).flying
-        | inr past ↦ none_outside (nodes_of heads) s.blocks b c.flying_stretch-flying_in.result (inside_nodes heads s.blocks S.keeps.inside) past
+            let many : own.result.flying ≡ count_by (is_flying_on b) (nodes_of heads) = ap (λ (t : Standing). t.flying) (told inside ∙ T.standing.each b none_yet inside) in
+            omega (arith, flying_counted b heads, many)
+        | inr past ↦
+            let none = nothing_flies b heads (λ p h. is_off b p.kind (λ on. let lt = S.keeps.inside p b h on in omega (arith, lt, past))) in
+            ap length none ∙ sym (ap (λ (t : Standing). t.flying) (own.ensures.outside (rw c.deref.ensures.value (omega (arith, past, T.standing.long)))))
       ];
-  idle = c.self.invariant.0.tallies.idle;
-  room = omega (arith, c.self.invariant.0.tallies.room, length-map c.self.inside.columns.heads.list.items node_of);
-}
+      lie = elim (cases_lt b s.blocks) [
+        | inl inside ↦ subst (λ (t : Standing). LieIn (is_flying_on b) (nodes_of heads) t.flying_in) (sym (told inside)) (T.standing.lie b none_yet inside).flying
+        | inr past ↦ none_outside (nodes_of heads) s.blocks b own.result.flying_in (inside_nodes heads s.blocks S.keeps.inside) past
+      ];
+      idle = T.idle;
+      room = omega (arith, T.room, length-map heads node_of);
+    }
 
 pub cascade-landed-requires : goal.cascade-landed-requires
 cascade-landed-requires c = record {
