@@ -400,8 +400,9 @@ def hot():
 
 SHAPES = [
     forget_each, forget_few, forget_nothing, after_old_ones, places, write_beside, refused, refused_in_the_middle,
-    chosen_in_the_middle, written_at_both_ends, superblock_that_waits, forget_one, choose_in_flight, picks, full, one_clean, groups_ahead, groups_of_one_block, groups_behind_a_chain,
-    group_before_another, depend_below_many, cycles, cycle_in_a_crowd, cycle_over_a_chain, hot,
+    chosen_in_the_middle, written_at_both_ends, superblock_that_waits, forget_one, choose_in_flight, picks, full, one_clean,
+    groups_ahead, groups_of_one_block, groups_behind_a_chain, group_before_another, depend_below_many, cycles,
+    cycle_in_a_crowd, cycle_over_a_chain, hot,
 ]
 
 
