@@ -1,5 +1,6 @@
-//! Which need of a block is the newest of each other block, so that it is found without a look at the others. Nothing is claimed
-//! of it: it tells a place among the needs of a block, and whoever asks looks at what stands there.
+//! Which need of a block is the newest of each other block, so that it is found without a look at the others, and when they are to
+//! be looked through again. Nothing is claimed of it: it tells a place among the needs of a block, and whoever asks looks at what
+//! stands there.
 
 use std::alloc::{AllocError, Global};
 
@@ -12,11 +13,12 @@ struct Newest {
     hard: Option<u32>,
 }
 
-/// For each block one for each other block that it needs, as the numbers of those rise. It takes a list for each block, and 16
-/// bytes for each block that one needs.
+/// For each block one for each other block that it needs, as the numbers of those rise, and how many needs it has once they are
+/// looked through. It takes a list and 8 bytes for each block, and 16 bytes for each block that one needs.
 #[derive(Drop)]
 pub struct Latest {
     lists: Vec<Vec<Newest>>,
+    due: Vec<usize>,
 }
 
 // The newest of the block `of`, if there is one.
@@ -52,7 +54,8 @@ impl Latest {
         for _ in 0..blocks {
             lists.push(Vec::new(alloc))?;
         }
-        Ok(Latest { lists })
+        let due = vec![in alloc; 0; blocks as usize]?;
+        Ok(Latest { lists, due })
     }
 
     /// Where the newest need of the block `of` stands among those of the block.
@@ -99,10 +102,26 @@ impl Latest {
         note_in(list, of, at, is_hard);
     }
 
+    /// Whether the block needs so many that they are to be looked through for what it need not have any more.
+    pub fn is_due(&self, block: u32, needs: usize) -> bool {
+        match self.due.get(block as usize) {
+            Some(due) => *due <= needs,
+            None => false,
+        }
+    }
+
+    /// They are to be looked through once the block needs so many.
+    pub fn put_off(&mut self, block: u32, needs: usize) {
+        if let Some(due) = self.due.get_mut(block as usize) {
+            *due = needs;
+        }
+    }
+
     /// The block needs nothing any more.
     pub fn clear(&mut self, block: u32) {
         if let Some(list) = self.lists.get_mut(block as usize) {
             list.clear();
         }
+        self.put_off(block, 0);
     }
 }

@@ -134,8 +134,8 @@ fn tell_anew(latest: &mut Latest, heads: &Heads, block: u32, needs: &[u32]) {
     }
 }
 
-// Room for so many more needs of the block. Where there is none, what it need not have any more is left out, and room is made for
-// as many again as then are kept, so that they are looked at seldom.
+// Room for so many more needs of the block. Where there is none, or half as many as stayed have joined since, what it need not
+// have any more is left out: so those that stay are looked at seldom, and a walk looks at few others.
 fn make_places(
     needs: &mut Vec<u32>,
     latest: &mut Latest,
@@ -150,13 +150,15 @@ fn make_places(
     ensures capacity { vec_capacity needs.old ≤ vec_capacity needs.new }
     ensures room { OnOk result (vec_len needs.new + places ≤ vec_capacity needs.new) }
 {
-    if needs.capacity().saturating_sub(needs.len()) >= places {
+    let free = needs.capacity().saturating_sub(needs.len());
+    if free >= places && !latest.is_due(block, needs.len()) {
         return Ok(());
     }
     leave_out(needs, heads, block);
     tell_anew(latest, heads, block, needs);
-    let many = needs.len().max(places);
-    needs.reserve(many)
+    let more = (needs.len() / 2).max(places);
+    latest.put_off(block, needs.len().saturating_add(more));
+    needs.reserve(more)
 }
 
 impl Needs {

@@ -106,12 +106,11 @@ fn told_by(sight: &Sight<'_>, index: usize, block: u32, row: &[u32]) -> Option<G
         }
         return None;
     }
-    let end = known_end(sight, index, block)?;
-    if is_within(sight, block, other, row) {
-        Some(soft(Some(end)))
-    } else {
-        None
+    if !is_within(sight, block, other, row) {
+        return None;
     }
+    let end = known_end(sight, index, block)?;
+    Some(soft(Some(end)))
 }
 
 /// What the newest changes of the block tell of a new one with that row, but for open gates: that it is hard or soft as one of

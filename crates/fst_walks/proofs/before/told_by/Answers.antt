@@ -22,8 +22,8 @@ returns-then-is_within c =
     told_hard patches b row (LeadsNowhere patches b row) c.hard.result c.hard.ensures.grade c.hard.ensures.end
     (hard_as heads c.args.sight.now.heads.now.rising c.requires.sees.hard b c.requires.sees.disk n row c.as_slice-other.result.now hard (row_direct heads c.args.sight.now.heads.now.rising n s d index c.as_slice-other.result.now (c.as_slice-other.ensures ∙ ap (λ h. h.dependencies.items) c.index-head.ensures)) (c.is_within.ensures c.if-is_within.true))
 
-pub returns-then-is_within-2 : goal.returns-then-is_within-2
-returns-then-is_within-2 c =
+pub returns : goal.returns
+returns c =
     let heads = c.args.sight.now.heads.now.list.items in
     let patches = patches_of heads in
     let sees = c.requires.sees in
@@ -40,4 +40,4 @@ returns-then-is_within-2 c =
     let same : other ≡ p.dependencies = c.as_slice-other.ensures ∙ (ap (λ h. h.dependencies.items) c.index-head.ensures ∙ ap (λ q. q.dependencies) (is_it heads c.args.sight.now.heads.now.rising (number_at heads s) s d index p head (index.1 e))) in
     let back = c.in_ok-end.ensures p head (subst (λ n. HasIndex heads n s) (sym (index.1 e)) index) in
     told_back patches (rising_patches heads c.args.sight.now.heads.now.rising) sees.disk b row c.soft.result (Some end) c.soft.ensures.grade c.soft.ensures.end refl
-    (back_as heads c.args.sight.now.heads.now.rising sees.hard b sees.disk row other end (c.is_within-2.ensures c.if-is_within-2.true) (subst (λ ds. LeadsBack patches b ds end) (sym same) back))
+    (back_as heads c.args.sight.now.heads.now.rising sees.hard b sees.disk row other end (c.is_within-2.ensures c.if-not-is_within.false) (subst (λ ds. LeadsBack patches b ds end) (sym same) back))
