@@ -206,6 +206,22 @@ def gate_each():
     return made
 
 
+def joined_by_trees():
+    """A thousand times sixteen changes, a tree of empty patches that joins them by two and two, and sixteen changes after that."""
+    made = Script(1024, 512)
+
+    def anywhere(after):
+        return made.patch(made.dice.randrange(1024), made.dice.randrange(512), after)
+
+    for _ in range(1000):
+        row = [anywhere([]) for _ in range(16)]
+        while len(row) > 1:
+            row = [made.empty(row[at : at + 2]) for at in range(0, len(row), 2)]
+        for _ in range(16):
+            anywhere(row)
+    return made
+
+
 def fan_of_own():
     """A gate over 10,000 changes of a block that were behind another, and 5,000 that each come after it and one of them."""
     made = Script(2)
@@ -246,7 +262,7 @@ def fan_in_flight():
 SHAPES = [
     ring_back, gates_in_a_chain, two_families, three_blocks, groups_in_a_chain, chains_of_groups, deep_below, tower,
     behind_a_gate, gate_each, deep_over, many_needs, block_of_soft_needs, block_beyond_soft_needs,
-    superblock_waits, fan_of_own, fan_of_others, fan_in_flight,
+    superblock_waits, joined_by_trees, fan_of_own, fan_of_others, fan_in_flight,
 ]
 
 

@@ -4,7 +4,7 @@ use Rattle.fst_types.specs.{Dependencies.{DirectlyOn, DependsOn}, Gates.IsOpenNu
 use Rattle.fst_types.specs.declared.grade.Grade.TheVariants as grade
 use Rattle.fst_heads.specs.{Grading.IsHardNumber, Indices.{IsAbove, PassesAt}}
 use Rattle.fst_heads.specs.declared.test.Test.TheVariants as test
-use Rattle.fst_levels.specs.{WayBack.LeadsBack, declared.needs.Way.Way}
+use Rattle.fst_levels.specs.{WayBack.LeadsBack, declared.below_row.Below.Below, declared.needs.Way.Way}
 
 -- n is the number of a hard change of block d at that place
 pub record IsHardAt (patches : List Patch) (at : Place) (d n : ℕ) : Type 0 where
@@ -81,6 +81,10 @@ IsKnown ways n end = (w : Way) × Contains ways w × (w.number ≡ n) × (w.end 
 -- n is in the row, or one of the row depends on it
 abbrev pub IsAtOrUnder : List Patch → List ℕ → ℕ → Type 0
 IsAtOrUnder patches row n = Contains row n ⊎ ((t : ℕ) × Contains row t × DependsOn patches t n)
+
+-- n was gathered below a row
+abbrev pub IsGathered : Below → ℕ → Type 0
+IsGathered below n = Contains below.changes.items n ⊎ Contains below.through.items n
 
 -- what is kept for block b grew by a new change of it with that row and grade: where it is hard, by what of the row is not spared, and perhaps by some of what is under the row
 pub record IsPut (patches : List Patch) (b : ℕ) (row : List ℕ) (g : Grade) (old new : List (List ℕ)) : Type 0 where

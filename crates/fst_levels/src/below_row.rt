@@ -1,18 +1,30 @@
 //! Some of what lies below a row, through soft changes, gates and empty patches: what a hard change depends on besides what it
 //! names. Where a walk crosses a block it would go through these each time; what is gathered here is kept with what the block
-//! needs.
+//! needs. Gates and empty patches only join others, often by a tree of them, so that there is a place for more of them.
 
-ghost use Rattle.std.specs.Prelude.{◌⊎◌, ℕ, Contains};
+ghost use Rattle.std.specs.Prelude.{◌≡◌, ◌⊎◌, ℕ, Contains, IfOk, IfSome};
 ghost use Rattle.fst_types.specs.Dependencies.{DirectlyOn};
 ghost use Rattle.fst_heads.specs.Heads.{patches_of};
-ghost use Rattle.fst_levels.specs.Needing.{IsAtOrUnder};
+ghost use Rattle.fst_levels.specs.Needing.{IsAtOrUnder, IsGathered};
 
 use crate::shortcuts::{is_hard_in, is_own, newest_few};
 use fst_heads::head::{Head, Kind};
 use fst_heads::heads::Heads;
+use std::alloc::{AllocError, Global};
 
-/// How many patches below a row are gathered, and of how many of a longer row they are taken.
+/// How many changes below a row are gathered, and of how many of a longer row they are taken.
 pub const BELOW: usize = 16;
+
+// Through how many gates and empty patches.
+const THROUGH: usize = 32;
+
+/// What was gathered below a row: changes, and the gates and empty patches through which they were found. It has a place for
+/// sixteen and for thirty-two.
+#[derive(Drop)]
+pub struct Below {
+    pub changes: Vec<u32>,
+    through: Vec<u32>,
+}
 
 // Whether what lies below the patch is more than what a walk comes to that crosses its block: it is no hard change in memory,
 // and no change that waits for changes of its block alone.
@@ -26,43 +38,99 @@ fn leads_on(head: &Head) -> bool {
     }
 }
 
-// Those of the row that are not there join, as long as there is a place.
-fn gather(below: &mut Vec<u32>, row: &[u32])
-    ensures { (n : ℕ) → Contains below.new.items n → Contains below.old.items n ⊎ Contains row.now n }
+// The number joins, if it is not there and there is a place.
+fn join(list: &mut Vec<u32>, number: u32)
+    ensures { (n : ℕ) → Contains list.new.items n → Contains list.old.items n ⊎ (n ≡ number) }
+{
+    if list.len() < list.capacity() && !list.contains(&number) {
+        list.push_reserved(number);
+    }
+}
+
+// The patch with the number joins the changes or the others, if it is not forgotten.
+fn gather_one(heads: &Heads, below: &mut Below, number: u32)
+    ensures { (n : ℕ) → IsGathered below.new n → IsGathered below.old n ⊎ (n ≡ number) }
+{
+    let Some(index) = heads.index_of(number) else {
+        return;
+    };
+    match heads.list[index].kind {
+        Kind::Change(_, _, _) => join(&mut below.changes, number),
+        Kind::Empty | Kind::OpenGate | Kind::SealedGate => join(&mut below.through, number),
+    }
+}
+
+// Those of the row join so.
+fn gather(heads: &Heads, below: &mut Below, row: &[u32])
+    ensures { (n : ℕ) → IsGathered below.new n → IsGathered below.old n ⊎ Contains row.now n }
 {
     for number in row {
-        if below.len() < below.capacity() && !below.contains(number) {
-            below.push_reserved(*number);
-        }
+        gather_one(heads, below, *number);
     }
 }
 
 // Some of what the patch with the number directly depends on joins, if it leads on.
-fn gather_under(heads: &Heads, below: &mut Vec<u32>, number: u32)
-    ensures { (n : ℕ) → Contains below.new.items n → Contains below.old.items n ⊎ DirectlyOn (patches_of heads.now.list.items) number n }
+fn gather_under(heads: &Heads, below: &mut Below, number: u32)
+    ensures { (n : ℕ) → IsGathered below.new n → IsGathered below.old n ⊎ DirectlyOn (patches_of heads.now.list.items) number n }
 {
     let Some(index) = heads.index_of(number) else {
         return;
     };
     let head = &heads.list[index];
     if leads_on(head) {
-        gather(below, newest_few(head.dependencies.as_slice(), BELOW));
+        let row = newest_few(head.dependencies.as_slice(), BELOW);
+        gather(heads, below, row);
+    }
+}
+
+// The one at that place, and the next place.
+fn next_of(list: &[u32], at: &mut usize) -> Option<u32>
+    ensures { IfSome result (Contains list.now) }
+{
+    if *at < list.len() {
+        let number = list[*at];
+        *at += 1;
+        Some(number)
+    } else {
+        None
+    }
+}
+
+impl Below {
+    /// Nothing was gathered.
+    pub fn new(alloc: Global) -> Result<Below, AllocError> {
+        Ok(Below {
+            changes: Vec::with_capacity(alloc, BELOW)?,
+            through: Vec::with_capacity(alloc, THROUGH)?,
+        })
+    }
+
+    // What is gone on from next: gates and empty patches first.
+    fn next(&self, gone: &mut usize, looked: &mut usize) -> Option<u32>
+        ensures { IfSome result (IsGathered self.now) }
+    {
+        match next_of(self.through.as_slice(), gone) {
+            Some(number) => Some(number),
+            None => next_of(self.changes.as_slice(), looked),
+        }
     }
 }
 
 /// Gathers some of what is below the row, that which is nearest first. What was gathered before does not matter.
-pub fn gather_below(heads: &Heads, below: &mut Vec<u32>, row: &[u32])
-    ensures { (n : ℕ) → Contains below.new.items n → IsAtOrUnder (patches_of heads.now.list.items) row.now n }
+pub fn gather_below(heads: &Heads, below: &mut Below, row: &[u32])
+    ensures { (n : ℕ) → IsGathered below.new n → IsAtOrUnder (patches_of heads.now.list.items) row.now n }
 {
-    below.clear();
+    below.changes.clear();
+    below.through.clear();
     for number in newest_few(row, BELOW) {
         gather_under(heads, below, *number);
     }
-    for at in 0..BELOW {
-        if below.len() <= at {
+    let mut gone = 0;
+    let mut looked = 0;
+    for _ in 0..THROUGH + BELOW {
+        let Some(number) = below.next(&mut gone, &mut looked) else {
             return;
-        }
-        let number = below[at];
+        };
         gather_under(heads, below, number);
     }
 }

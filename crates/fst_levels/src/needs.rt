@@ -16,7 +16,7 @@ ghost use Rattle.fst_heads.specs.Nodes.{nodes_of, AreSettled};
 ghost use Rattle.fst_levels.specs.declared.needs.Way.{Way};
 ghost use Rattle.fst_levels.specs.Needing.{IsAtOrUnder, IsBesides, IsKnown, IsLeft, IsNeeding, IsNoted, IsPruned, IsPut, needs_of};
 
-use crate::below_row::{BELOW, gather_below};
+use crate::below_row::{BELOW, Below, gather_below};
 use crate::latest::Latest;
 use crate::shortcuts::is_hard_in;
 use crate::spared::{is_told, stays_on};
@@ -36,8 +36,8 @@ pub struct Way {
 }
 
 /// What each block needs. Of one block there is room for so many more. `latest` tells which need is the newest of each other
-/// block; `ways` has the known ways, as the numbers of their changes rise; `below` has what was met below a row last, and a
-/// place for sixteen. It takes two lists for each block, 4 bytes for each need, 16 for each block that one needs and 8 for
+/// block; `ways` has the known ways, as the numbers of their changes rise; `below` has what was gathered below a row
+/// last. It takes two lists for each block, 4 bytes for each need, 16 for each block that one needs and 8 for
 /// each way.
 #[derive(Drop)]
 pub struct Needs {
@@ -46,7 +46,7 @@ pub struct Needs {
     block: u32,
     room: usize,
     ways: Vec<Way>,
-    below: Vec<u32>,
+    below: Below,
 }
 
 impl Model for Needs {
@@ -177,7 +177,7 @@ impl Needs {
             block: 0,
             room: 0,
             ways: Vec::new(alloc),
-            below: Vec::with_capacity(alloc, BELOW)?,
+            below: Below::new(alloc)?,
         })
     }
 
@@ -308,7 +308,7 @@ impl Needs {
             &mut self.latest,
             heads,
             self.block,
-            self.below.as_slice(),
+            self.below.changes.as_slice(),
         );
     }
 

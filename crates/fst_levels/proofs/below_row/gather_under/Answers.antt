@@ -13,6 +13,6 @@ returns-then-leads_on c n k =
         patch = patch_of c.index-head.result.now;
         head = subst (λ h. Contains (patches_of heads) (patch_of h)) (sym c.index-head.ensures) (patch_at heads c.in-Some.index c.index-head.result.now found.0);
         numbered = ap (λ h. h.number) c.index-head.ensures ∙ found.1 c.index-head.result.now;
-        named = subst (λ row. Contains row n) c.as_slice.ensures (c.newest_few.ensures.only n named);
+        named = subst (λ row. Contains row n) c.as_slice.ensures (c.newest_few-row.ensures.only n named);
       })
     ]

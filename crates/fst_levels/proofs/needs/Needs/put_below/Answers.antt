@@ -33,6 +33,6 @@ returns-clause-besides c =
       kept = λ n k. subst (λ ns. Contains ns n) (sym here) (c.put_firsts.ensures.kept n (subst (λ ns. Contains ns n) there k));
       only = λ n k. elim (c.put_firsts.ensures.only n (subst (λ ns. Contains ns n) here k)) [
         | inl old ↦ inl (subst (λ ns. Contains ns n) (sym there) old)
-        | inr more ↦ inr (c.gather_below.ensures n (subst (λ ns. Contains ns n) c.as_slice.ensures.value more))
+        | inr more ↦ inr (c.gather_below.ensures n (inl (subst (λ ns. Contains ns n) c.as_slice.ensures.value more)))
       ];
     })
