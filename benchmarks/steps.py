@@ -207,7 +207,7 @@ def gate_each():
 
 
 def joined_by_trees():
-    """A thousand times sixteen changes, a tree of empty patches that joins them by two and two, and sixteen changes after that."""
+    """A thousand times sixteen changes, which a tree of empty patches joins two by two, and sixteen changes after that."""
     made = Script(1024, 512)
 
     def anywhere(after):

@@ -2,7 +2,7 @@
 //! names. Where a walk crosses a block it would go through these each time; what is gathered here is kept with what the block
 //! needs. Gates and empty patches only join others, often by a tree of them, so that there is a place for more of them.
 
-ghost use Rattle.std.specs.Prelude.{◌≡◌, ◌⊎◌, ℕ, Contains, IfOk, IfSome};
+ghost use Rattle.std.specs.Prelude.{◌≡◌, ◌⊎◌, ℕ, Contains, IfSome};
 ghost use Rattle.fst_types.specs.Dependencies.{DirectlyOn};
 ghost use Rattle.fst_heads.specs.Heads.{patches_of};
 ghost use Rattle.fst_levels.specs.Needing.{IsAtOrUnder, IsGathered};
@@ -18,8 +18,8 @@ pub const BELOW: usize = 16;
 // Through how many gates and empty patches.
 const THROUGH: usize = 32;
 
-/// What was gathered below a row: changes, and the gates and empty patches through which they were found. It has a place for
-/// sixteen and for thirty-two.
+/// What was gathered below a row: changes, and the gates and empty patches through which they were found. It has places for
+/// sixteen of the one and thirty-two of the other, 4 bytes each.
 #[derive(Drop)]
 pub struct Below {
     pub changes: Vec<u32>,
@@ -97,7 +97,7 @@ fn next_of(list: &[u32], at: &mut usize) -> Option<u32>
 }
 
 impl Below {
-    /// Nothing was gathered.
+    /// Nothing gathered. It takes all its places.
     pub fn new(alloc: Global) -> Result<Below, AllocError> {
         Ok(Below {
             changes: Vec::with_capacity(alloc, BELOW)?,
@@ -105,18 +105,19 @@ impl Below {
         })
     }
 
-    // What is gone on from next: gates and empty patches first.
-    fn next(&self, gone: &mut usize, looked: &mut usize) -> Option<u32>
+    // From which patch to go on, where so many of each kind are done: gates and empty patches first.
+    fn next(&self, through_done: &mut usize, changes_done: &mut usize) -> Option<u32>
         ensures { IfSome result (IsGathered self.now) }
     {
-        match next_of(self.through.as_slice(), gone) {
+        match next_of(self.through.as_slice(), through_done) {
             Some(number) => Some(number),
-            None => next_of(self.changes.as_slice(), looked),
+            None => next_of(self.changes.as_slice(), changes_done),
         }
     }
 }
 
-/// Gathers some of what is below the row, that which is nearest first. What was gathered before does not matter.
+/// Gathers some of what is below the row: what is nearest through gates and empty patches first, then what is nearest below the
+/// changes. What was gathered before does not matter.
 pub fn gather_below(heads: &Heads, below: &mut Below, row: &[u32])
     ensures { (n : ℕ) → IsGathered below.new n → IsAtOrUnder (patches_of heads.now.list.items) row.now n }
 {
@@ -125,10 +126,10 @@ pub fn gather_below(heads: &Heads, below: &mut Below, row: &[u32])
     for number in newest_few(row, BELOW) {
         gather_under(heads, below, *number);
     }
-    let mut gone = 0;
-    let mut looked = 0;
+    let mut through_done = 0;
+    let mut changes_done = 0;
     for _ in 0..THROUGH + BELOW {
-        let Some(number) = below.next(&mut gone, &mut looked) else {
+        let Some(number) = below.next(&mut through_done, &mut changes_done) else {
             return;
         };
         gather_under(heads, below, number);

@@ -2,9 +2,9 @@
 //! changes in memory directly depend on, but of the hard changes of one block one for all, since they are written together,
 //! and none that waits for changes of the block alone, since a walk would only come back to the block that it crosses. So a
 //! walk looks at each block that the block needs once, and not at each of its changes. What is on disk by then is left out where
-//! there is no place for more. Besides, where such a need is a soft
-//! change that others lie below, the first of these of each other block is kept too: so that the block needs one of that
-//! block is told by its needs, and not by a walk through soft changes each time. Beside that the ways are kept that were
+//! there is no place for more, and once half as many as stayed have joined. Besides, where such a need is a soft change, a gate or
+//! an empty patch that others lie below, the first of these of each other block is kept too: so that the block needs one of that
+//! block is told by its needs, and not by a walk through these each time. Beside that the ways are kept that were
 //! seen to lead from a soft change back to its block, each with its end. What is on a way waits for its end, so that it
 //! stays there until that is on disk, and a new change over such a change of its block is soft too.
 
@@ -37,8 +37,8 @@ pub struct Way {
 
 /// What each block needs. Of one block there is room for so many more. `latest` tells which need is the newest of each other
 /// block; `ways` has the known ways, as the numbers of their changes rise; `below` has what was gathered below a row
-/// last. It takes two lists for each block, 4 bytes for each need, 16 for each block that one needs and 8 for
-/// each way.
+/// last. It takes two lists and 8 bytes for each block, 4 bytes for each need, 16 for each block that one needs and 8 for
+/// each way, and 192 bytes.
 #[derive(Drop)]
 pub struct Needs {
     lists: Vec<Vec<u32>>,
