@@ -23,9 +23,9 @@ loop-init c = c.loop-number.invariant
 
 pub loop-preserved : goal.loop-preserved
 loop-preserved c n k = elim (c.gather_under-in-loop.ensures n k) [
-      | inl was ↦ c.loop.invariant n was
-      | inr direct ↦ elim (c.loop.invariant _ c.in-Some.ensures) [
-        | inl named ↦ inr (_, named, one direct)
-        | inr t ↦ inr (t.0, t.1, join t.2 (one direct))
-      ]
-    ]
+  | inl was ↦ c.loop.invariant n was
+  | inr direct ↦ elim (c.loop.invariant _ c.in-Some.ensures) [
+    | inl named ↦ inr (_, named, one direct)
+    | inr t ↦ inr (t.0, t.1, join t.2 (one direct))
+  ]
+]
