@@ -1,6 +1,7 @@
 //! Some of what lies below a row, through soft changes, gates and empty patches: what a hard change depends on besides what it
 //! names. Where a walk crosses a block it would go through these each time; what is gathered here is kept with what the block
-//! needs. Gates and empty patches only join others, often by a tree of them, so that there is a place for more of them.
+//! needs. Gates and empty patches only join others, often by a tree of them: the one that was found last is gone through first,
+//! so that the changes at the end of such a tree are found however wide it is.
 
 ghost use Rattle.std.specs.Prelude.{◌≡◌, ◌⊎◌, ℕ, Contains, IfSome};
 ghost use Rattle.fst_types.specs.Dependencies.{DirectlyOn};
@@ -15,11 +16,11 @@ use std::alloc::{AllocError, Global};
 /// How many changes below a row are gathered, and of how many of a longer row they are taken.
 pub const BELOW: usize = 16;
 
-// Through how many gates and empty patches.
+// Through how many patches, and for how many gates and empty patches there is a place.
 const THROUGH: usize = 32;
 
-/// What was gathered below a row: changes, and the gates and empty patches through which they were found. It has places for
-/// sixteen of the one and thirty-two of the other, 4 bytes each.
+/// What was gathered below a row: changes, and gates and empty patches that are to be gone through. It has places for sixteen
+/// of the one and thirty-two of the other, 4 bytes each.
 #[derive(Drop)]
 pub struct Below {
     pub changes: Vec<u32>,
@@ -105,19 +106,25 @@ impl Below {
         })
     }
 
-    // From which patch to go on, where so many of each kind are done: gates and empty patches first.
-    fn next(&self, through_done: &mut usize, changes_done: &mut usize) -> Option<u32>
-        ensures { IfSome result (IsGathered self.now) }
+    // Whether there is no place for a change more.
+    fn is_full(&self) -> bool {
+        self.changes.len() >= self.changes.capacity()
+    }
+
+    // From which patch to go on, where so many of the changes are done: a gate or empty patch first, the one found last.
+    fn next(&mut self, done: &mut usize) -> Option<u32>
+        ensures next { IfSome result (IsGathered self.old) }
+        ensures only { (n : ℕ) → IsGathered self.new n → IsGathered self.old n }
     {
-        match next_of(self.through.as_slice(), through_done) {
+        match self.through.pop() {
             Some(number) => Some(number),
-            None => next_of(self.changes.as_slice(), changes_done),
+            None => next_of(self.changes.as_slice(), done),
         }
     }
 }
 
-/// Gathers some of what is below the row: what is nearest through gates and empty patches first, then what is nearest below the
-/// changes. What was gathered before does not matter.
+/// Gathers some of what is below the row: what is below gates and empty patches first, then what is nearest below the changes.
+/// What was gathered before does not matter.
 pub fn gather_below(heads: &Heads, below: &mut Below, row: &[u32])
     ensures { (n : ℕ) → IsGathered below.new n → IsAtOrUnder (patches_of heads.now.list.items) row.now n }
 {
@@ -126,10 +133,12 @@ pub fn gather_below(heads: &Heads, below: &mut Below, row: &[u32])
     for number in newest_few(row, BELOW) {
         gather_under(heads, below, *number);
     }
-    let mut through_done = 0;
-    let mut changes_done = 0;
-    for _ in 0..THROUGH + BELOW {
-        let Some(number) = below.next(&mut through_done, &mut changes_done) else {
+    let mut done = 0;
+    for _ in 0..THROUGH {
+        if below.is_full() {
+            return;
+        }
+        let Some(number) = below.next(&mut done) else {
             return;
         };
         gather_under(heads, below, number);

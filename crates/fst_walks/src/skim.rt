@@ -25,7 +25,7 @@ use fst_levels::walk::Walk;
 const LONG: usize = 512;
 
 // At how many patches it looks, and at how many more once it comes to such a block.
-const FEW_LOOKS: usize = 128;
+const FEW_LOOKS: usize = 16;
 
 const MORE_LOOKS: usize = 2048;
 

@@ -23,9 +23,12 @@ loop-init c = c.loop-number.invariant
 
 pub loop-preserved : goal.loop-preserved
 loop-preserved c n k = elim (c.gather_under-in-loop.ensures n k) [
-  | inl was ↦ c.loop.invariant n was
-  | inr direct ↦ elim (c.loop.invariant _ c.in-Some.ensures) [
+  | inl was ↦ c.loop.invariant n (c.next.ensures.only n was)
+  | inr direct ↦ elim (c.loop.invariant _ c.in-Some.ensures.next) [
     | inl named ↦ inr (_, named, one direct)
     | inr t ↦ inr (t.0, t.1, join t.2 (one direct))
   ]
 ]
+
+pub returns-in_default : goal.returns-in_default
+returns-in_default c n k = c.loop.invariant n (c.next.ensures.only n k)
