@@ -1,13 +1,11 @@
 -- What calls that change places, or let a gate gain names, leave of what the fields keep.
-use Rattle.std.proofs.Common.{◌≡◌, ◌<◌, false, get_or-set_same, get_or-set_other, ◌+◌, ◌++◌, ◌∷◌, [], ℕ, Bool, List, length, map, get_or, set, refl, sym, subst, ◌∙◌, arith, ◌⊎◌, ◌≤◌, Contains, ap, inl, inr}
+use Rattle.std.proofs.Common.{◌≡◌, ◌<◌, ◌+◌, ◌++◌, ◌∷◌, [], ℕ, Bool, List, length, map, get_or, set, refl, sym, subst, ◌∙◌, arith, ◌⊎◌, ◌≤◌, Contains, ap, inl, inr}
 use Rattle.fst_types.specs.{Cascade.IsCascadeOf, Closure.IsAcyclic, Dependencies.{DirectlyOn, DependsOn, IsLiveNumber}, Facts.SparseAreLawful, Gates.IsOpenNumber, Gating.{sealed, gains}, Lists.Lists, Making.fresh}
 use Rattle.fst_types.specs.{Order.depend_order, Patches.{Change, Patch, block_of_kind}, Refusals.NoneHolds, Writable.{IsWritable, IsWritableSet}, Writing.{landed, launched}, declared.grade.Grade.Grade}
-use Rattle.fst_heads.specs.{Covers.{AreCovered, Covering, IsPut}, Keeps.{Keeps}, Rows.IsSparseRow, Standings.{NoneBelow, may_be_written, sent}, declared.standing.Standing.Standing}
+use Rattle.fst_heads.specs.{Covers.{AreCovered, Covering, IsPut}, Keeps.{Keeps}, Rows.IsSparseRow}
 use Rattle.fst_types.proofs.{Alike.{Alike, back_alike, length_alike, on_back}, Depending.{length_mapped, sparse_gained}}
 use Rattle.fst_types.proofs.{GateGains.{direct_cases}, Issuing.{alike_launched, sparse_launched}, Landing.{alike_landed, sparse_landed}, NewChange.no_cycle, Sealing.{alike_sealed, sparse_sealed}}
 use Rattle.fst_heads.proofs.Covering.{was_gained, covered_alike, covered_put}
-use Rattle.std.proofs.Math.Bool.{and-false}
-use Rattle.std.proofs.lemmas.{Bool.{cases_eq, cases_lt}, List.set_past}
 
 module _ (old new : List Patch) (A : Alike old new) where
   pub keeps_alike : (numbers blocks : ℕ) (marks marks' : List Bool) → Keeps old numbers blocks marks → SparseAreLawful new numbers → length marks' ≡ length marks → Keeps new numbers blocks marks'
@@ -70,22 +68,3 @@ pub keeps_depends : (heads : List Patch) (numbers blocks g : ℕ) (names on : Li
     → Keeps (map (gains g names) heads) numbers blocks marks'
 keeps_depends heads numbers blocks g names on marks marks' K gate none live long =
     keeps_gained heads numbers blocks g marks K gate names (λ n c. (live.only n c).0) (λ n c r. none.1.1.1.1.1.0 (n, (live.only n c).1, r)) marks' long
-
--- blocks below the one that stands otherwise now have the marks that they had
-pub none_below_set : (standings : List Standing) (least k b : ℕ) (new : Standing) → NoneBelow standings least → k ≤ least → k ≤ b → NoneBelow (set standings b new) k
-none_below_set standings least k b new none low here c d lt =
-    ap may_be_written (get_or-set_other standings b c new d (λ e. absurd (omega (arith, e, lt, here)))) ∙ none c d (omega (arith, lt, low))
-
--- a block of which nothing is ready may not be written
-pub none_ready : (s : Standing) → may_be_written (sent s) ≡ false
-none_ready s = grind (arith, and-false)
-
--- where a block stands otherwise that may not be written either
-pub none_below_again : (standings : List Standing) (least b : ℕ) (new : Standing) → NoneBelow standings least → (b < least → may_be_written new ≡ false) → NoneBelow (set standings b new) least
-none_below_again standings least b new none unmarked c d lt = elim (cases_eq c b) [
-  | inl same ↦ elim (cases_lt b (length standings)) [
-    | inl inside ↦ ap may_be_written (ap (λ k. get_or (set standings b new) k d) same ∙ get_or-set_same standings b new d inside) ∙ unmarked (omega (arith, same, lt))
-    | inr past ↦ ap may_be_written (ap (λ xs. get_or xs c d) (set_past standings b new past)) ∙ none c d lt
-  ]
-  | inr other ↦ ap may_be_written (get_or-set_other standings b c new d other) ∙ none c d lt
-]

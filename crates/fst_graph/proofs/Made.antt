@@ -14,7 +14,7 @@ use Rattle.fst_graph.specs.declared.sparse.Sparse.TheInside.{Inside}
 use Rattle.fst_graph.specs.{Fresh.{HasOneMore, HasPlaces, IsAdded, IsRoomier, MayAdd}, Ready.change_of, Sound.AreSound, declared.prepared.Prepared.Prepared as Stored}
 use Rattle.fst_heads.proofs.{Added.{new_node, with_node, with_names}, AtNumber.patches_in_nodes, Beside.{beside_made, beside_depends, one_at_most, one_live}, Covering.{covered_gained, covered_push}, Making.keeps_added, Stands.stand_made}
 use Rattle.fst_levels.proofs.{Linked.{patches_made, patches_named}, Releveled.gained_is_leveled, Resting.none_yet, Seen.{seen, lawful_nodes, tallies_wider}, Shelves.shelved}
-use Rattle.fst_graph.proofs.{Borne.{few_counted, lawful_with, open_nodes}, Kept.{covered_made, keeps_depends, keeps_walked, none_below_set}, Listed.listed_made, NeedsNow.{given_more, needing_change, needing_gained, needing_put}}
+use Rattle.fst_graph.proofs.{Borne.{few_counted, lawful_with, open_nodes}, Kept.{covered_made, keeps_depends, keeps_walked}, Listed.listed_made, NeedsNow.{given_more, needing_change, needing_gained, needing_put}}
 use Rattle.fst_graph.proofs.{PutNow.IsPutDown, Ranks.{along_grown, leveled_change, leveled_put}, Sound.{as_many_lists, as_many_marks, as_many_places, over_down, sees_all, walked_sound}, Tallied.{tallies_depends, tallies_made}}
 use Rattle.fst_heads.specs.declared.pending.Pending.TheVariants as pending
 
@@ -96,7 +96,6 @@ module _ {s : Inside} (S : AreSound s) where
         leveled = rw patches (gained_is_leveled old g names gate s.blocks s.columns.levels S.leveled);
         needing = rw patches (needing_gained old g names S.keeps.lawful.one_place_each.rising S.keeps.lawful.on_disk_with_all keeps.lawful.one_place_each.rising keeps.lawful.on_disk_with_all gate S.needing);
         given = S.given;
-        none_below = S.none_below;
         prepared = tt;
       }
 
@@ -118,7 +117,7 @@ module _ {s : Inside} (S : AreSound s) where
         tallies = rw P.nodes (tallies_wider _ (s.numbers + 1) s.blocks _ _ _ _ _ _ (
             tallies_made (nodes_of s.columns.heads.list.items) s.numbers s.blocks _ _ _ _ _ _ columns.queue.cap p (lawful_nodes s.columns.heads.list.items s.numbers S.keeps.lawful) (lawful_with s.columns.heads.list.items p (s.numbers + 1) M.lawful) S.tallies M.next M.rising
             (λ m h. subst (λ ps. IsLiveNumber ps m) (sym (patches_in_nodes s.columns.heads.list.items)) (M.live m h)) (λ b on. absurd (M.off b on))
-            (listed_made (nodes_of s.columns.heads.list.items) s.blocks _ p S.tallies.listed M.plain) (stand_made (nodes_of s.columns.heads.list.items) s.blocks s.standings.items p M.plain S.tallies.standing)
+            (listed_made (nodes_of s.columns.heads.list.items) s.blocks _ p S.tallies.listed M.plain) (stand_made (nodes_of s.columns.heads.list.items) s.blocks s.standings p M.plain S.tallies.standing)
             (omega (arith, free, s.columns.heads.list.ok.0, length-map s.columns.heads.list.items node_of))
             ) P.waiting (omega arith));
         covered = rw patches (covered_push old p M.off s.blocks s.covers.items S.covered);
@@ -126,7 +125,6 @@ module _ {s : Inside} (S : AreSound s) where
         leveled = rw patches (leveled_put p A.level A.ancestry H M.next given P.ranks P.floors (λ q c. A.over q c (S.leveled.leveled.few q)) A.most A.under S.leveled (λ b on. absurd (M.off b on)) (λ b on. absurd (M.off b on)) A.top);
         needing = rw patches (needing_put p S.keeps.lawful M.lawful M.next M.off S.given S.needing);
         given = λ w c. let g = S.given w c in omega (arith, g);
-        none_below = S.none_below;
         prepared = tt;
       }
 
@@ -175,9 +173,9 @@ module _ {s : Inside} (S : AreSound s) where
     -- there is room for it in the list of its block, among the counts, and in the walks
     pub may_enlist : record {
       list : p.block < length s.lists.items;
-      standing : p.block < length s.standings.items;
+      standing : p.block < length s.standings;
       room : HasRoomInList (map (λ l. vec_len l) s.lists.items) (map (λ l. vec_capacity l) s.lists.items) p.block;
-      few : (own : Standing) → own ≡ get_or s.standings.items p.block own → (own.ready < 18446744073709551615) × (own.held < 18446744073709551615);
+      few : (own : Standing) → own ≡ get_or s.standings p.block own → (own.ready < 18446744073709551615) × (own.held < 18446744073709551615);
     }
     may_enlist = record {
       list = D.shelf;
@@ -211,10 +209,9 @@ module _ {s : Inside} (S : AreSound s) where
         → IsNoted (s.numbers + 1) p.told.end s.needs.ways grown_needs.ways
         → {lists' : Vec (Vec Listed)} → shelved lists'.items ≡ set (shelved s.lists.items) p.block (get_or (shelved s.lists.items) p.block [] ++ entry_of (record { number = s.numbers + 1; span = p.span }) ∷ [])
         → {cover cover' : Covering} {covers' : Vec Covering} → cover ≡ get_or s.covers.items p.block cover → IsCovered cover p.span.at p.span.len (s.numbers + 1) cover' → covers'.items ≡ set s.covers.items p.block cover'
-        → {standings' : Vec Standing} → ((d : Standing) → standings'.items ≡ set s.standings.items p.block (entered (is_hard_kind made.kind) (is_pending over (pending.Block p.block)) (s.numbers + 1) (get_or s.standings.items p.block d)))
-        → {least : ℕ} → least ≤ s.unmarked → least ≤ p.block
-        → AreSound (record s { columns = columns; needs = grown_needs; lists = lists'; covers = covers'; standings = standings'; live = s.live + 1; unmarked = least; numbers = s.numbers + 1; prepared = None })
-    change_sound walk places {rise = rise} {columns = columns} P pends same named R long at leveled below lifted still there after under gs row put noted listed cover_is covered covers_are enters {least} low here =
+        → {standings' : List Standing} → ((d : Standing) → standings' ≡ set s.standings p.block (entered (is_hard_kind made.kind) (is_pending over (pending.Block p.block)) (s.numbers + 1) (get_or s.standings p.block d)))
+        → AreSound (record s { columns = columns; needs = grown_needs; lists = lists'; covers = covers'; standings = standings'; live = s.live + 1; numbers = s.numbers + 1; prepared = None })
+    change_sound walk places {rise = rise} {columns = columns} P pends same named R long at leveled below lifted still there after under gs row put noted listed cover_is covered covers_are enters =
         let W = walked_sound S {walked = walked walk places} (record { long = long ∙ ap length same; crossed = omega (arith, (walked walk places).up.crossed.ok.0, s.columns.ends.up.crossed.ok.0, as_many_places S) }) (over_down S) in
         let nodes = P.nodes in
         let patches = put_patches s.columns.heads.list.items columns.heads.list.items made nodes in
@@ -228,6 +225,5 @@ module _ {s : Inside} (S : AreSound s) where
           leveled = rw patches (leveled_change p rise (numbers_met s.columns.heads.list.items walk) S.keeps.lawful.one_place_each D.given (risen walk same named R) (rw (← at, ← S.leveled.long) leveled) below lifted still (rw (← there, ← after) under) P.ranks P.floors);
           needing = rw patches (needing_change p S.keeps.lawful D.keeps.lawful S.given S.needing (rw (← D.prepared.needed.0, ← gs, ← row) put) noted D.ready.back);
           given = given_more old s.numbers s.needs.ways _ p S.keeps.lawful.one_place_each S.given noted D.ready.back;
-          none_below = rw (enters none_yet) (none_below_set s.standings.items s.unmarked least p.block _ S.none_below low here);
           prepared = tt;
         }

@@ -19,10 +19,10 @@ pub record IsPutDown (s : Inside) (p : Stored) : Type 0 where
   pub shelf : p.block < length s.lists.items
   pub given : (q : ℕ) → Contains p.dependencies.items q → q ≤ s.numbers
   pub keeps : Keeps (patches_of s.columns.heads.list.items ++ change_of s.numbers p ∷ []) (s.numbers + 1) s.blocks (s.columns.ends.up.walk.marks ++ false ∷ [])
-  pub counted : (own : Standing) → own ≡ get_or s.standings.items p.block own → own ≡ standing_of (nodes_of s.columns.heads.list.items) p.block (get_or s.standings.items p.block own)
+  pub counted : (own : Standing) → own ≡ get_or s.standings p.block own → own ≡ standing_of (nodes_of s.columns.heads.list.items) p.block (get_or s.standings p.block own)
   pub tallies : (own : Standing) → Tallies (with_node (nodes_of s.columns.heads.list.items) (change_of s.numbers p)) (s.numbers + 1) s.blocks
       (set (shelved s.lists.items) p.block (get_or (shelved s.lists.items) p.block [] ++ entry (change_of s.numbers p) ∷ []))
-      (set s.standings.items p.block (entered (is_hard_kind (change_of s.numbers p).kind) (is_pending (new_node (nodes_of s.columns.heads.list.items) (change_of s.numbers p)).pending (pending.Block p.block)) (s.numbers + 1) (get_or s.standings.items p.block own)))
+      (set s.standings p.block (entered (is_hard_kind (change_of s.numbers p).kind) (is_pending (new_node (nodes_of s.columns.heads.list.items) (change_of s.numbers p)).pending (pending.Block p.block)) (s.numbers + 1) (get_or s.standings p.block own)))
       s.columns.queue.items s.columns.queue.cap
 
 -- and where it is for a group, its head is not open
@@ -82,7 +82,7 @@ module _ {s : Inside} (S : AreSound s) where
         tallies = λ own. tallies_made nodes s.numbers s.blocks _ _ _ _ _ _ s.columns.queue.cap made (lawful_nodes s.columns.heads.list.items s.numbers S.keeps.lawful) lawful T refl ready.depends.rising live
             (λ b on. let same : p.block ≡ b = cc in subst (λ m. m < s.blocks) same ready.inside)
             (listed_change nodes s.blocks _ made p.block p.span.at p.span.len p.told.grade [] T.listed refl refl ready.inside)
-            (stand_change nodes s.blocks s.standings.items made p.block p.span.at p.span.len p.told.grade own refl refl ready.inside newest T.standing)
+            (stand_change nodes s.blocks s.standings made p.block p.span.at p.span.len p.told.grade own refl refl ready.inside newest T.standing)
             (omega (arith, free, s.columns.heads.list.ok.0, length-map s.columns.heads.list.items node_of));
       }
 

@@ -16,13 +16,13 @@ use Rattle.fst_graph.proofs.{Borne.{inside_nodes, open_nodes}, Kept.{covered_mov
 module _ {s : Inside} (S : AreSound s) {g : ℕ} (gate : IsOpenNumber (patches_of s.columns.heads.list.items) g)
     (mid : Heads) (shut : nodes_of mid.list.items ≡ map (at_number g seals) (nodes_of s.columns.heads.list.items)) where
   -- what comes to rest may be told from there
-  pub shut_ready : {waits : List ℕ} {cap : ℕ} → waits ≡ s.columns.queue.items ++ enqueued_sealed g (nodes_of s.columns.heads.list.items) → cap ≡ s.columns.queue.cap → s.standings.len ≤ 65535
+  pub shut_ready : {waits : List ℕ} {cap : ℕ} → waits ≡ s.columns.queue.items ++ enqueued_sealed g (nodes_of s.columns.heads.list.items) → cap ≡ s.columns.queue.cap → length s.standings ≤ 65535
       → record {
-        start : Spreading Sinks (nodes_of mid.list.items) s.standings.len waits;
+        start : Spreading Sinks (nodes_of mid.list.items) (length s.standings) waits;
         linked : AreLinked (nodes_of mid.list.items);
         distinct : AreDistinct (nodes_of mid.list.items);
-        standing : AllStand (nodes_of mid.list.items) s.standings.len s.standings.items;
-        narrow : s.standings.len ≤ 65535;
+        standing : AllStand (nodes_of mid.list.items) (length s.standings) s.standings;
+        narrow : length s.standings ≤ 65535;
         room : length mid.list.items ≤ cap;
       }
   shut_ready queued capacity narrow =
@@ -33,7 +33,7 @@ module _ {s : Inside} (S : AreSound s) {g : ℕ} (gate : IsOpenNumber (patches_o
         start = rw (shut, queued, T.idle, as_many_standings S) (starts_sealed nodes s.numbers s.blocks g (lawful_nodes s.columns.heads.list.items s.numbers S.keeps.lawful) (inside_nodes s.columns.heads.list.items s.blocks S.keeps.inside) T.settled there);
         linked = rw shut (linked_sealed nodes g T.linked);
         distinct = rw shut (distinct_sealed nodes g T.distinct);
-        standing = rw (shut, as_many_standings S) (stand_sealed nodes s.numbers s.blocks g s.standings.items (one_each s.columns.heads.list.items s.numbers S.keeps.lawful.one_place_each) there T.standing);
+        standing = rw (shut, as_many_standings S) (stand_sealed nodes s.numbers s.blocks g s.standings (one_each s.columns.heads.list.items s.numbers S.keeps.lawful.one_place_each) there T.standing);
         narrow = narrow;
         room = omega (arith, ap length shut, length-map mid.list.items node_of, length-map nodes (at_number g seals), T.room, capacity);
       }
@@ -58,7 +58,7 @@ module _ {s : Inside} (S : AreSound s) {g : ℕ} (gate : IsOpenNumber (patches_o
       leveled = subst (λ n. IsLeveled (patches_of new.list.items) n s.columns.levels) (sym S.leveled.long) (leveled_moved alike_shut S.leveled);
     }
 
-    module _ (landed : ℕ) (settled : AreSettled (nodes_of new.list.items) s.standings.len) (counted : count_by is_waiting (nodes_of new.list.items) + landed ≡ count_by is_waiting (nodes_of mid.list.items)) where
+    module _ (landed : ℕ) (settled : AreSettled (nodes_of new.list.items) (length s.standings)) (counted : count_by is_waiting (nodes_of new.list.items) + landed ≡ count_by is_waiting (nodes_of mid.list.items)) where
       still_settled : AreSettled (nodes_of new.list.items) s.blocks
       still_settled = subst (AreSettled (nodes_of new.list.items)) (as_many_standings S) settled
 
@@ -66,12 +66,12 @@ module _ {s : Inside} (S : AreSound s) {g : ℕ} (gate : IsOpenNumber (patches_o
       pub shut_few : landed ≤ s.live
       shut_few = landed_few s.columns.heads.list.items mid.list.items new.list.items (at_number g seals) s.blocks s.live landed s.columns.ends.up.crossed.items shut (sealed_told g) S.tallies.settled still_settled counted S.beside
 
-      pub shut_sound : {told : Vec Standing} {emptied shelf : Vec ℕ} {lowered : Leveling} → IsLeveled (patches_of new.list.items) (length s.columns.levels.floors) lowered → IsSpreadOf (nodes_of mid.list.items) (nodes_of new.list.items) → AllStand (nodes_of new.list.items) s.standings.len told.items → emptied.items ≡ [] → emptied.cap ≡ s.columns.queue.cap
-          → AreSound (record s { columns = record s.columns { heads = new; levels = lowered; queue = emptied }; standings = told; landed = shelf; live = s.live - landed; unmarked = 0; prepared = None })
+      pub shut_sound : {told : List Standing} {emptied shelf : Vec ℕ} {lowered : Leveling} → IsLeveled (patches_of new.list.items) (length s.columns.levels.floors) lowered → IsSpreadOf (nodes_of mid.list.items) (nodes_of new.list.items) → AllStand (nodes_of new.list.items) (length s.standings) told → emptied.items ≡ [] → emptied.cap ≡ s.columns.queue.cap
+          → AreSound (record s { columns = record s.columns { heads = new; levels = lowered; queue = emptied }; standings = told; landed = shelf; live = s.live - landed; prepared = None })
       shut_sound {told} {emptied} {lowered} leveled spread stand empty capacity =
           let kept = keeps_shut in
           let spread_from = subst (λ ns. IsSpreadOf ns (nodes_of new.list.items)) shut spread in
-          let standing = subst (λ k. AllStand (nodes_of new.list.items) k told.items) (as_many_standings S) stand in
+          let standing = subst (λ k. AllStand (nodes_of new.list.items) k told) (as_many_standings S) stand in
           record {
             keeps = kept;
             beside = beside_landed s.columns.heads.list.items mid.list.items new.list.items (at_number g seals) s.blocks s.live landed s.columns.ends.up.crossed.items shut (sealed_told g) S.tallies.settled still_settled counted S.beside;
@@ -83,6 +83,5 @@ module _ {s : Inside} (S : AreSound s) {g : ℕ} (gate : IsOpenNumber (patches_o
             leveled = subst (λ n. IsLeveled (patches_of new.list.items) n lowered) S.leveled.long leveled;
             needing = needing_sealed (patches_of s.columns.heads.list.items) (patches_of new.list.items) s.numbers g S.keeps.lawful kept.lawful gate shut_cascade S.needing;
             given = S.given;
-            none_below = λ b d lt. absurd (omega (arith, lt));
             prepared = tt;
           }

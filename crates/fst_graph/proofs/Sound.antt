@@ -3,7 +3,7 @@ use Rattle.std.proofs.{Common.{◌≡◌, ◌∙◌, ℕ, List, Option, Some, No
 use Rattle.std.specs.Global.{Vec}
 use Rattle.fst_types.specs.{Facts.SparseAreLawful, Gates.IsOpenNumber, Patches.Patch}
 use Rattle.fst_heads.specs.{Covers.{AreCovered, Covering}, Heads.{patch_of, patches_of, IsRising}, Keeps.IsInside, Lists.{entries_of, AreListed, entries_on}}
-use Rattle.fst_heads.specs.{Nodes.{is_forgotten_in, nodes_of, AreSettled}, Standings.{NoneBelow}, declared.head.Head.Head, declared.lists.Listed.Listed}
+use Rattle.fst_heads.specs.{Nodes.{is_forgotten_in, nodes_of, AreSettled}, declared.head.Head.Head, declared.lists.Listed.Listed}
 use Rattle.fst_walks.specs.{BothEnds.IsOver, Searching.AreOver, declared.block_walk.BlockWalk.BlockWalk, declared.ends.Ends.Ends}
 use Rattle.fst_levels.specs.{Leveling.{IsLeveled, Leveling}, Needing.{IsNeeding, IsPruned, Needing}, Sights.Sees, declared.needs.Way.Way, declared.sight.Sight.Sight}
 use Rattle.fst_graph.specs.declared.columns.Columns.{Columns}
@@ -32,8 +32,8 @@ module _ {s : Inside} (S : AreSound s) where
   pub as_many_lists : length s.lists.items ≡ s.blocks
   as_many_lists = sym (length-map s.lists.items (λ l. entries_of l.items)) ∙ S.tallies.listed.long
 
-  pub as_many_standings : s.standings.len ≡ s.blocks
-  as_many_standings = omega (arith, S.tallies.standing.long, s.standings.ok.0)
+  pub as_many_standings : length s.standings ≡ s.blocks
+  as_many_standings = S.tallies.standing.long
 
   pub as_many_places : length s.columns.ends.up.crossed.items ≡ length s.lists.items
   as_many_places = S.beside.places ∙ sym as_many_lists
@@ -80,7 +80,6 @@ module _ {s : Inside} (S : AreSound s) where
     leveled = S.leveled;
     needing = S.needing;
     given = S.given;
-    none_below = S.none_below;
     prepared = tt;
   }
 
@@ -89,7 +88,7 @@ module _ {s : Inside} (S : AreSound s) where
       → AreSound (record s { columns = record s.columns { ends = walked; levels = settled }; prepared = None })
   settled_sound {walked = walked} up down leveled =
       let W = walked_sound {walked = walked} up down in
-      record { keeps = W.keeps; beside = W.beside; tallies = W.tallies; covered = W.covered; along = W.along; leveled = leveled; needing = W.needing; given = W.given; none_below = W.none_below; prepared = tt }
+      record { keeps = W.keeps; beside = W.beside; tallies = W.tallies; covered = W.covered; along = W.along; leveled = leveled; needing = W.needing; given = W.given; prepared = tt }
 
   -- also where they began over the heads and the lists that were handed on
   pub walked_then : {walked : Ends} {seen : List Head} {shelves : List (Vec Listed)} → seen ≡ s.columns.heads.list.items → shelves ≡ s.lists.items → IsOver seen (length shelves) walked.up → IsOver seen (length shelves) walked.down
@@ -121,7 +120,6 @@ module _ {s : Inside} (S : AreSound s) where
         leveled = rw patches (leveled_as R.ranks R.floors S.leveled);
         needing = rw patches S.needing;
         given = S.given;
-        none_below = S.none_below;
         prepared = tt;
       }
 
@@ -137,7 +135,6 @@ module _ {s : Inside} (S : AreSound s) where
     leveled = S.leveled;
     needing = S.needing;
     given = S.given;
-    none_below = S.none_below;
     prepared = tt;
   }
 
@@ -152,19 +149,15 @@ module _ {s : Inside} (S : AreSound s) where
     leveled = S.leveled;
     needing = needing_pruned s.columns.heads.list.items s.blocks s.columns.heads.rising S.keeps.lawful.on_disk_with_all S.tallies.settled b pruned ways S.needing;
     given = λ w c. S.given w (ways w c);
-    none_below = S.none_below;
     prepared = tt;
   }
 
   -- with other levels that are as they should be
   pub leveled_sound : {levels' : Leveling} → IsLeveled (patches_of s.columns.heads.list.items) s.blocks levels' → AreSound (record s { columns = record s.columns { levels = levels' }; prepared = None })
-  leveled_sound L = record { keeps = S.keeps; beside = S.beside; tallies = S.tallies; covered = S.covered; along = S.along; leveled = L; needing = S.needing; given = S.given; none_below = S.none_below; prepared = tt }
-
-  pub marked_sound : {least : ℕ} → NoneBelow s.standings.items least → AreSound (record s { unmarked = least; prepared = None })
-  marked_sound none = record { keeps = S.keeps; beside = S.beside; tallies = S.tallies; covered = S.covered; along = S.along; leveled = S.leveled; needing = S.needing; given = S.given; none_below = none; prepared = tt }
+  leveled_sound L = record { keeps = S.keeps; beside = S.beside; tallies = S.tallies; covered = S.covered; along = S.along; leveled = L; needing = S.needing; given = S.given; prepared = tt }
 
   pub with_prepared : {o' : Option Stored} → IfSome o' (IsPrepared (record s { prepared = o' })) → AreSound (record s { prepared = o' })
-  with_prepared P = record { keeps = S.keeps; beside = S.beside; tallies = S.tallies; covered = S.covered; along = S.along; leveled = S.leveled; needing = S.needing; given = S.given; none_below = S.none_below; prepared = P }
+  with_prepared P = record { keeps = S.keeps; beside = S.beside; tallies = S.tallies; covered = S.covered; along = S.along; leveled = S.leveled; needing = S.needing; given = S.given; prepared = P }
 
   -- there are as many lists as blocks
   pub many_lists : (slice : List (Vec Listed)) → slice ≡ s.lists.items → length slice ≡ s.blocks

@@ -3,7 +3,7 @@ use Rattle.std.specs.Prelude.{◌≡◌, ◌≤◌, ◌<◌, ◌+◌, ℕ, [], L
 use Rattle.std.specs.Global.{Vec}
 use Rattle.fst_types.specs.{Limits.max_heads, Patches.Patch}
 use Rattle.fst_heads.specs.{Covers.{AreCovered, Covering, HasRoomForRuns}, Heads.patches_of, Keeps.{Beside, Keeps, Tallies}, Landed.AreLanded, Lists.{entries_of, HasRoomInList}}
-use Rattle.fst_heads.specs.{Nodes.{is_forgotten_in, nodes_of}, declared.head.Head.Head, Standings.NoneBelow}
+use Rattle.fst_heads.specs.{Nodes.{is_forgotten_in, nodes_of}, declared.head.Head.Head}
 use Rattle.fst_levels.specs.{Leveling.{IsLeveled}, Needing.{HaveGivenEnds, IsNeeding}}
 use Rattle.fst_walks.specs.declared.ends.Ends.{Ends}
 use Rattle.fst_graph.specs.declared.sparse.Sparse.TheInside.{Inside}
@@ -44,11 +44,10 @@ pub record IsPrepared (s : Inside) (p : Stored) : Type 0 where
 pub record AreSound (s : Inside) : Type 0 where
   pub keeps : Keeps (patches_of s.columns.heads.list.items) s.numbers s.blocks s.columns.ends.up.walk.marks
   pub beside : Beside (patches_of s.columns.heads.list.items) s.blocks s.live s.columns.ends.up.crossed.items
-  pub tallies : Tallies (nodes_of s.columns.heads.list.items) s.numbers s.blocks (map (λ l. entries_of l.items) s.lists.items) s.standings.items s.columns.queue.items (vec_capacity s.columns.queue)
+  pub tallies : Tallies (nodes_of s.columns.heads.list.items) s.numbers s.blocks (map (λ l. entries_of l.items) s.lists.items) s.standings s.columns.queue.items (vec_capacity s.columns.queue)
   pub covered : AreCovered (patches_of s.columns.heads.list.items) s.blocks s.covers.items
   pub along : AreAlong s.columns.ends
   pub leveled : IsLeveled (patches_of s.columns.heads.list.items) s.blocks s.columns.levels
   pub needing : IsNeeding (patches_of s.columns.heads.list.items) s.blocks s.needs
   pub given : HaveGivenEnds s.numbers s.needs.ways
-  pub none_below : NoneBelow s.standings.items s.unmarked
   pub prepared : IfSome s.prepared (IsPrepared s)

@@ -237,8 +237,7 @@ impl Graph {
     }
 
     /// The least writable block, or none where no block is writable. Where nothing is in flight either, each change in
-    /// memory then waits for an open gate. It takes no memory, and looks at one mark a block, from where the last look found
-    /// one; after a landing or a seal from the first block on.
+    /// memory then waits for an open gate. It takes no memory, and looks at one mark for 64 blocks, and at those of 64.
     pub fn pick(&mut self) -> Option<BlockNo>
         ensures least { IsPick self.old.heads (option_map (λ b. b.0) result) }
         ensures never_stuck { IfNone result (IsStuckByGates self.old.heads) }

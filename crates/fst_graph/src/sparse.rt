@@ -30,9 +30,7 @@ use fst_heads::launch::launch;
 use fst_heads::lists::{Listed, empty_lists, land_block};
 use fst_heads::places::block_of;
 use fst_heads::row::is_given;
-use fst_heads::standing::{
-    Standing, empty_standings, land_at, least_marked, ready_count, standing_at,
-};
+use fst_heads::standings::Standings;
 use fst_levels::ancestors::renew;
 use fst_levels::levels::Levels;
 use fst_levels::needs::Needs;
@@ -47,8 +45,7 @@ use std::marker::Model;
 /// marked so; and what has a place for each of them. Its walks' marks have two places for each block, and its levels a floor.
 /// `needs` has what each block needs, `lists` for each block its changes that are not on disk, and `standings` the mark of each.
 /// `landed` has the numbers of the patches on disk that are not forgotten, and a place for each head.
-/// Where a change is prepared, there is a free place for it in each. `live` is how many of the patches are not on disk, and
-/// no block below `unmarked` may be written.
+/// Where a change is prepared, there is a free place for it in each. `live` is how many of the patches are not on disk.
 #[derive(Drop)]
 pub struct Sparse {
     alloc: Global,
@@ -56,11 +53,10 @@ pub struct Sparse {
     needs: Needs,
     lists: Vec<Vec<Listed>>,
     covers: Vec<Cover>,
-    standings: Vec<Standing>,
+    standings: Standings,
     landed: Vec<u32>,
     live: usize,
     forgotten: usize,
-    unmarked: usize,
     numbers: u32,
     blocks: u16,
     prepared: Option<Prepared>,
@@ -85,7 +81,7 @@ impl Sparse {
         ensures { MatchResult result (λ g. g ≡ record { heads = []; numbers = numbers; blocks = shape.blocks; groups = []; prepared = None }) (λ f. f ≡ Fault.Memory) }
     {
         // What is let go of in one piece comes first, since each refusal lets go of what is there.
-        let Ok(standings) = empty_standings(alloc, shape.blocks) else {
+        let Ok(standings) = Standings::new(alloc, shape.blocks) else {
             return Err(Fault::Memory);
         };
         let Ok(lists) = empty_lists(alloc, shape.blocks) else {
@@ -118,7 +114,6 @@ impl Sparse {
             landed: Vec::new(alloc),
             live: 0,
             forgotten: 0,
-            unmarked: 0,
             numbers,
             blocks: shape.blocks as u16,
             prepared: None,
@@ -169,7 +164,7 @@ impl Sparse {
         let Some(list) = self.lists.get(block.0 as usize) else {
             return Ok(Vec::new(self.alloc));
         };
-        let standing = self.standings[block.0 as usize];
+        let standing = self.standings.at(block.0);
         ready_set(self.alloc, &self.columns.heads, list, standing, block.0)
     }
 
@@ -201,7 +196,6 @@ impl Sparse {
         // The tail gate of a group gained its changes without a look at its ancestors, and gains no more.
         renew(&mut self.columns.levels, &self.columns.heads, gate.0);
         self.live -= landed;
-        self.unmarked = 0;
         Ok(())
     }
 
@@ -285,7 +279,7 @@ impl Sparse {
             chosen,
             block,
         );
-        self.standings[block as usize].launch();
+        self.standings.launch(block);
         self.needs.clear(block);
     }
 
@@ -295,15 +289,14 @@ impl Sparse {
         ensures blocks { self.new.blocks ≡ self.old.blocks }
     {
         let_go(&mut self.prepared);
-        let standing = standing_at(&self.standings, block.0);
         land_block(
             &mut self.columns.heads,
             &mut self.lists,
             &mut self.columns.queue,
-            standing,
+            self.standings.at(block.0),
             block.0,
         );
-        land_at(&mut self.standings, block.0);
+        self.standings.land(block.0);
         self.needs.land(block.0);
         let landed = cascade(
             &mut self.columns.heads,
@@ -312,7 +305,6 @@ impl Sparse {
             &mut self.landed,
         );
         self.live -= landed;
-        self.unmarked = 0;
         sink_floor(&mut self.columns.levels, &self.lists, block.0);
     }
 
@@ -326,11 +318,11 @@ impl Sparse {
         let Some(list) = self.lists.get(block.0 as usize) else {
             return None;
         };
-        let standing = self.standings[block.0 as usize];
+        let standing = self.standings.at(block.0);
         let Some(no) = first_held(&self.columns.heads, list, standing, block.0) else {
             return None;
         };
-        self.standings[block.0 as usize].note_held(no.0);
+        self.standings.note_held(block.0, no.0);
         Some(no)
     }
 
@@ -338,26 +330,17 @@ impl Sparse {
     pub fn has_ready(&self, block: BlockNo) -> bool
         ensures { NoneFlies self.now.heads block.0 → IsTrue result ↔ HasReady self.now.heads block.0 }
     {
-        if self.standings.len() <= block.0 as usize {
-            return false;
-        }
-        ready_count(&self.standings, block.0) > 0
+        self.standings.at(block.0).ready > 0
     }
 
     /// The least writable block, or none where no block is writable. Where nothing is in flight either, each change in
-    /// memory then waits for an open gate. It takes no memory, and looks at one mark a block, from where the last look found
-    /// one; after a landing or a seal from the first block on.
+    /// memory then waits for an open gate. It takes no memory, and looks at one mark for 64 blocks, and at those of 64.
     pub fn pick(&mut self) -> Option<BlockNo>
         ensures least { IsPick self.old.heads (option_map (λ b. b.0) result) }
         ensures never_stuck { IfNone result (IsStuckByGates self.old.heads) }
         ensures same { self.new ≡ unprepared self.old }
     {
         let_go(&mut self.prepared);
-        let Some(block) = least_marked(&self.standings, self.unmarked) else {
-            self.unmarked = self.standings.len();
-            return None;
-        };
-        self.unmarked = block.0 as usize;
-        Some(block)
+        self.standings.least_marked()
     }
 }

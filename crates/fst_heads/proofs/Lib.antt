@@ -37,6 +37,7 @@ mod Launching
 mod Rising
 pub mod Carried
 mod Halves
+mod Telling
 mod Passing
 mod Landing
 pub mod Indexed

@@ -1,5 +1,5 @@
 -- How each block stands.
-use Rattle.std.specs.Prelude.{◌≡◌, ◌<◌, ◌≤◌, ◌==◌, ◌&&◌, ◌↔◌, ◌+◌, ◌-◌, ℕ, Bool, true, false, not, List, map, filter, length, count_by, All, IsTrue, slice_index_or, if◌then◌else◌}
+use Rattle.std.specs.Prelude.{◌≡◌, ◌<◌, ◌≤◌, ◌==◌, ◌&&◌, ◌↔◌, ◌+◌, ◌-◌, ◌/◌, ℕ, Bool, true, false, not, List, map, filter, length, count_by, All, IsTrue, slice_index_or, if◌then◌else◌}
 use Rattle.fst_types.specs.declared.place.Place.TheVariants as place
 use Rattle.fst_types.specs.{Patches.Patch, Tests.is_change_at, Writable.IsWritable}
 use Rattle.fst_heads.specs.declared.pending.Pending.TheVariants as pending
@@ -48,9 +48,22 @@ pub record AllStand (nodes : List Node) (blocks : ℕ) (standings : List Standin
 abbrev pub may_be_written : Standing → Bool
 may_be_written s = (s.flying == 0) && (s.held == 0) && not (s.ready == 0)
 
--- no block below this one has a true mark
-abbrev pub NoneBelow : List Standing → ℕ → Type 0
-NoneBelow standings least = (b : ℕ) (d : Standing) → b < least → may_be_written (slice_index_or standings b d) ≡ false
+-- of the blocks from the first on, and before the end, none has a true mark
+abbrev pub NoneMarked : List Standing → ℕ → ℕ → Type 0
+NoneMarked standings first end = (b : ℕ) (d : Standing) → first ≤ b → b < end → may_be_written (slice_index_or standings b d) ≡ false
+
+-- b is the least of them that has one
+pub record IsLeastMarked (standings : List Standing) (first end b : ℕ) : Type 0 where
+  pub from : first ≤ b
+  pub before : b < end
+  pub marked : (d : Standing) → may_be_written (slice_index_or standings b d) ≡ true
+  pub least : NoneMarked standings first b
+
+-- of each sixty-four blocks it is told where one of them has a true mark; more of them may be told of
+pub record AreTold (standings : List Standing) (told : List Bool) : Type 0 where
+  pub few : length standings ≤ 4294967295
+  pub long : length told ≡ length standings / 64 + 1
+  pub marked : (b : ℕ) (d : Standing) (none : Bool) → b < length standings → may_be_written (slice_index_or standings b d) ≡ true → slice_index_or told (b / 64) none ≡ true
 
 -- the mark of each block is true exactly where it is writable
 abbrev pub AreMarked : List Patch → ℕ → List Standing → Type 0

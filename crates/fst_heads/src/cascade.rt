@@ -2,8 +2,10 @@
 //! and an empty patch or a sealed gate that has nothing pending any more goes to disk. The queue has those of which
 //! other is pending than is recorded, of which their dependants were notified. Here what is pending of a patch only sinks.
 
-ghost use Rattle.std.specs.Prelude.{◌≡◌, ◌≢◌, ◌<◌, ◌≤◌, ◌+◌, ◌++◌, ◌∷◌, ◌==◌, [], true, length, map, Contains, AllPairs, vec_len, vec_capacity, slice_index_or, count_by, if◌then◌else◌};
+ghost use Rattle.std.specs.Prelude.{◌≡◌, ◌≢◌, ◌<◌, ◌≤◌, ◌+◌, ◌++◌, ◌∷◌, ◌==◌, [], true, ℕ, length, map, Contains, AllPairs, vec_len, vec_capacity, slice_index_or, count_by, if◌then◌else◌};
 ghost use Rattle.fst_types.specs.Cascade.{IsCascadeOf};
+ghost use Rattle.fst_types.specs.Patches.{Change};
+ghost use Rattle.fst_types.specs.declared.grade.Grade.{Grade};
 ghost use Rattle.fst_heads.specs.declared.pending.Pending.TheVariants as pending;
 ghost use Rattle.fst_heads.specs.Frames.{frame_of, frames_of};
 ghost use Rattle.fst_heads.specs.Heads.{kind_of, patches_of};
@@ -11,13 +13,13 @@ ghost use Rattle.fst_heads.specs.Landed.{AreLanded};
 ghost use Rattle.fst_heads.specs.Indices.{HasIndex};
 ghost use Rattle.fst_heads.specs.Nodes.{Node, node_of, nodes_of, at_number, AreLinked, AreDistinct, AreSettled};
 ghost use Rattle.fst_heads.specs.Pendings.{Fits, Sinks, is_pending};
-ghost use Rattle.fst_heads.specs.Spreading.{follows, rested, is_recorded, now, updated, enqueues, notified, enqueued, is_waiting, CanUpdate, seals, enqueued_sealed, Spreading, IsSpreadOf};
+ghost use Rattle.fst_heads.specs.Spreading.{follows, rested, is_recorded, recorded, now, updated, enqueues, notified, enqueued, is_waiting, CanUpdate, IsStale, seals, enqueued_sealed, Spreading, IsSpreadOf};
 ghost use Rattle.fst_heads.specs.Standings.{AllStand};
 
 use crate::head::{Head, Kind};
 use crate::heads::Heads;
 use crate::pending::{Pending, is_pending, of_change};
-use crate::standing::{Standing, record_at};
+use crate::standings::Standings;
 use fst_types::Place;
 
 // Whether it is on disk as soon as all that it depends on is.
@@ -120,6 +122,35 @@ pub(crate) fn notify(
     }
 }
 
+// Records what is pending of the head at the index, of which its dependants have to be notified. Answers what was recorded
+// and what is now. A change in memory that now waits for changes of its block in memory alone is ready.
+fn record_at(heads: &mut Heads, standings: &mut Standings, index: usize) -> (Pending, Pending)
+    requires index { index < vec_len heads.old.list }
+    requires stale { (d : Node) → IsStale (slice_index_or (nodes_of heads.old.list.items) index d) }
+    requires inside { (x : Node) (b at len : ℕ) (grade : Grade) → Contains (nodes_of heads.old.list.items) x → x.patch.kind ≡ Change b at len grade → b < length standings.old }
+    requires standing { AllStand (nodes_of heads.old.list.items) (length standings.old) standings.old }
+    ensures old { (d : Node) → result.0 ≡ (slice_index_or (nodes_of heads.old.list.items) index d).pending }
+    ensures new { (d : Node) → result.1 ≡ now (slice_index_or (nodes_of heads.old.list.items) index d) }
+    ensures nodes { (d : Node) → nodes_of heads.new.list.items ≡ map (at_number (slice_index_or (nodes_of heads.old.list.items) index d).patch.number recorded) (nodes_of heads.old.list.items) }
+    ensures standing { AllStand (nodes_of heads.new.list.items) (length standings.old) standings.new }
+    ensures frames { frames_of heads.new.list.items ≡ frames_of heads.old.list.items }
+    ensures places { vec_capacity heads.new.list ≡ vec_capacity heads.old.list }
+    ensures len { vec_len heads.new.list ≡ vec_len heads.old.list }
+{
+    let head = &mut heads.list[index];
+    let old = head.pending;
+    let new = pending_now(head);
+    if let Kind::Change(_, block, _) = head.kind {
+        if let Place::Memory = head.place {
+            if is_pending(new, Pending::Block(block)) {
+                standings.release(u32::from(block), head.kind, head.number);
+            }
+        }
+    }
+    head.pending = new;
+    (old, new)
+}
+
 // Where nothing is pending any more of the patch with the number it is on disk, and so among those that landed.
 fn note_landing(landed: &mut Vec<u32>, number: u32, left: Pending)
     requires { left ≡ pending.Nothing → vec_len landed.old < vec_capacity landed.old }
@@ -137,19 +168,19 @@ fn note_landing(landed: &mut Vec<u32>, number: u32, left: Pending)
 pub fn cascade(
     heads: &mut Heads,
     queue: &mut Vec<u32>,
-    standings: &mut Vec<Standing>,
+    standings: &mut Standings,
     landed: &mut Vec<u32>,
 ) -> usize
-    requires start { Spreading Sinks (nodes_of heads.old.list.items) (vec_len standings.old) queue.old.items }
+    requires start { Spreading Sinks (nodes_of heads.old.list.items) (length standings.old) queue.old.items }
     requires linked { AreLinked (nodes_of heads.old.list.items) }
     requires distinct { AreDistinct (nodes_of heads.old.list.items) }
-    requires standing { AllStand (nodes_of heads.old.list.items) (vec_len standings.old) standings.old.items }
-    requires room { (vec_len standings.old ≤ 65535) × (length heads.old.list.items ≤ vec_capacity queue.old) × (length heads.old.list.items ≤ vec_capacity landed.old) }
+    requires standing { AllStand (nodes_of heads.old.list.items) (length standings.old) standings.old }
+    requires room { (length standings.old ≤ 65535) × (length heads.old.list.items ≤ vec_capacity queue.old) × (length heads.old.list.items ≤ vec_capacity landed.old) }
     requires listed { AreLanded (nodes_of heads.old.list.items) landed.old.items }
-    ensures settled { AreSettled (nodes_of heads.new.list.items) (vec_len standings.old) }
+    ensures settled { AreSettled (nodes_of heads.new.list.items) (length standings.old) }
     ensures placed { IsCascadeOf (patches_of heads.old.list.items) (patches_of heads.new.list.items) }
     ensures spread { IsSpreadOf (nodes_of heads.old.list.items) (nodes_of heads.new.list.items) }
-    ensures standing { AllStand (nodes_of heads.new.list.items) (vec_len standings.old) standings.new.items }
+    ensures standing { AllStand (nodes_of heads.new.list.items) (length standings.old) standings.new }
     ensures frames { frames_of heads.new.list.items ≡ frames_of heads.old.list.items }
     ensures places { vec_capacity heads.new.list ≡ vec_capacity heads.old.list }
     ensures landed { count_by is_waiting (nodes_of heads.new.list.items) + result ≡ count_by is_waiting (nodes_of heads.old.list.items) }

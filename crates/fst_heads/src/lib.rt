@@ -18,7 +18,8 @@
 //! For each block there is a list of its changes that are not on disk, and its *standing*: how many of them are ready, hard
 //! and held back, and in flight, and where in the list those of each kind lie. Those that are ready wait for such changes
 //! alone: at every moment they are what may be written of the block. Where some are ready, none is held back and none flies,
-//! it may be written now, and that is its mark.
+//! it may be written now, and that is its mark. The standings of all blocks tell by sixty-four whether one has it, so that the
+//! least is found without a look at each.
 //!
 //! Nothing here knows a grade's rule, a refusal or a group: what is kept for searches over heads (`fst_levels`) and the
 //! searches (`fst_walks`) are layers above, and what callers see of it all is `fst_graph`.
@@ -41,6 +42,7 @@ pub mod places;
 pub mod row;
 pub mod sparse;
 pub mod standing;
+pub mod standings;
 pub mod stretch;
 pub mod test;
 mod turns;

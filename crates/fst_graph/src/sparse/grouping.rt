@@ -130,7 +130,6 @@ impl Sparse {
                 // The gates below the head may have had other ancestors when it was put after them.
                 renew(&mut self.columns.levels, &self.columns.heads, head);
                 self.live -= landed;
-                self.unmarked = 0;
                 true
             }
             Err(_) => false,

@@ -29,7 +29,7 @@ use fst_heads::links::link;
 use fst_heads::lists::Listed;
 use fst_heads::pending::{Pending, is_of_block};
 use fst_heads::row::row_sums;
-use fst_heads::standing::Standing;
+use fst_heads::standings::Standings;
 use fst_levels::ancestors::ancestry_over;
 use fst_levels::sight::Sight;
 use fst_levels::under_hard::keep_under;
@@ -53,22 +53,22 @@ fn tie(alloc: Global, heads: &mut Heads, gate: u32, number: u32)
 // A new change stands last in the list of its block, and is counted where it is pending of that block alone or is hard.
 fn enlist(
     lists: &mut Vec<Vec<Listed>>,
-    standings: &mut Vec<Standing>,
+    standings: &mut Standings,
     block: u32,
     listed: Listed,
     kind: Kind,
     pending: Pending,
 )
     requires list { block < length lists.old.items }
-    requires standing { block < length standings.old.items }
+    requires standing { block < length standings.old }
     requires room { HasRoomInList (map (λ l. vec_len l) lists.old.items) (map (λ l. vec_capacity l) lists.old.items) block }
-    requires few { (own : Counts) → own ≡ slice_index_or standings.old.items block own → (own.ready < 18446744073709551615) × (own.held < 18446744073709551615) }
+    requires few { (own : Counts) → own ≡ slice_index_or standings.old block own → (own.ready < 18446744073709551615) × (own.held < 18446744073709551615) }
     ensures listed { map (λ l. entries_of l.items) lists.new.items ≡ slice_set (map (λ l. entries_of l.items) lists.old.items) block (slice_index_or (map (λ l. entries_of l.items) lists.old.items) block [] ++ entry_of listed ∷ []) }
-    ensures entered { (d : Counts) → standings.new.items ≡ slice_set standings.old.items block (entered (is_hard_kind (kind_of kind)) (is_pending pending (pending_as.Block block)) listed.number (slice_index_or standings.old.items block d)) }
+    ensures entered { (d : Counts) → standings.new ≡ slice_set standings.old block (entered (is_hard_kind (kind_of kind)) (is_pending pending (pending_as.Block block)) listed.number (slice_index_or standings.old block d)) }
 {
     lists[block as usize].push_reserved(listed);
     let is_ready = is_of_block(pending, block);
-    standings[block as usize].enter(kind, is_ready, listed.number);
+    standings.enter(block, kind, is_ready, listed.number);
 }
 
 impl Sparse {
@@ -194,7 +194,6 @@ impl Sparse {
             kind,
             pending,
         );
-        self.unmarked = self.unmarked.min(block as usize);
         self.covers[block as usize].put(span, number);
         self.live += 1;
         self.numbers = number;

@@ -1,4 +1,4 @@
-use Rattle.fst_heads.proofs.Basics.{◌≡◌, ◌∙◌, ◌++◌, ◌∷◌, [], get_or, if◌then◌else◌, length, count_by, ap, vec_len, subst, sym, arith, length-map, nil_from_length, rules}
+use Rattle.fst_heads.proofs.Basics.{◌≡◌, ◌∙◌, ◌++◌, ◌∷◌, [], get_or, if◌then◌else◌, length, count_by, ap, subst, sym, arith, length-map, nil_from_length, rules}
 use Rattle.fst_heads.proofs.{Patches.In-from_Contains, Words.{node_of, nodes_of, is_pending, Sinks, Spreading, is_waiting, now, AllStand}}
 use Rattle.fst_heads.proofs.{Beside.{waits_stale, waiting_recorded, waiting_notified}, Landed.{length_if, place_noted, notified_noted}}
 use Rattle.fst_heads.proofs.Popping.{fits_there, stale_there, after_is, once_after, live_after, updated_after, room_after, turned, cascaded_heads}
@@ -11,7 +11,7 @@ use Rattle.fst_heads.proofs.cascade.cascade.Goals as goal
 pub record_at-old-requires : goal.record_at-old-requires
 record_at-old-requires c =
     let heads = c.loop-number.heads.list.items in
-    let blocks = vec_len c.args.standings.now in
+    let blocks = length c.args.standings.now in
     let queue = c.pop.new.self.items in
     let q = c.in-Some.number in
     let s = c.in-Some-index_of.index in
@@ -25,14 +25,14 @@ record_at-old-requires c =
         stale = stale_there sinks_way heads blocks queue q s c.requires.room.0 S c.loop-number.invariant.linked c.loop-number.invariant.distinct found d;
       };
       inside = λ x b at len grade contained kind.
-          omega (arith, S.changes x b at len grade contained kind, c.loop-number.standings.ok.0, c.loop-number.invariant.standing.long);
+          omega (arith, S.changes x b at len grade contained kind, c.loop-number.invariant.standing.long);
       standing = search rules;
     }
 
 pub notify-requires : goal.notify-requires
 notify-requires c =
     let heads = c.loop-number.heads.list.items in
-    let blocks = vec_len c.args.standings.now in
+    let blocks = length c.args.standings.now in
     let queue = c.pop.new.self.items in
     let q = c.in-Some.number in
     let s = c.in-Some-index_of.index in
@@ -59,7 +59,7 @@ pub loop-number-smaller-in-Some-index_of : goal.loop-number-smaller-in-Some-inde
 loop-number-smaller-in-Some-index_of c =
     let heads = c.loop-number.heads.list.items in
     let nodes = nodes_of heads in
-    let blocks = vec_len c.args.standings.now in
+    let blocks = length c.args.standings.now in
     let queue = c.pop.new.self.items in
     let q = c.in-Some.number in
     let s = c.in-Some-index_of.index in
@@ -74,7 +74,7 @@ pub loop-number-preserved-in-Some-index_of : goal.loop-number-preserved-in-Some-
 loop-number-preserved-in-Some-index_of c =
     let heads = c.loop-number.heads.list.items in
     let nodes = nodes_of heads in
-    let blocks = vec_len c.args.standings.now in
+    let blocks = length c.args.standings.now in
     let queue = c.pop.new.self.items in
     let q = c.in-Some.number in
     let s = c.in-Some-index_of.index in
@@ -83,7 +83,7 @@ loop-number-preserved-in-Some-index_of c =
     let settled = c.record_at-old.ensures in
     let after = nodes_of c.record_at-old.new.heads.list.items in
     let turn = turned sinks_way heads blocks queue q s c.requires.room.0 S c.loop-number.invariant.linked c.loop-number.invariant.distinct found c.record_at-old.result.0 c.record_at-old.result.1 after settled.old settled.new settled.nodes (nodes_of c.notify.new.heads.list.items) c.notify.new.queue.items c.notify.ensures.nodes c.notify.ensures.queued in
-    let same : vec_len c.loop-number.standings ≡ vec_len c.args.standings.now = omega (arith, c.loop-number.standings.ok.0, c.loop-number.invariant.standing.long) in
+    let same : length c.loop-number.standings ≡ length c.args.standings.now = omega (arith, c.loop-number.invariant.standing.long) in
     let start = nodes_of c.args.heads.now.list.items in
     let next = nodes_of c.notify.new.heads.list.items in
     let d = (last_waits nodes blocks queue q S).0 in
@@ -107,7 +107,7 @@ loop-number-preserved-in-Some-index_of c =
       spreading = turn.spreading;
       linked = turn.are_linked;
       distinct = turn.are_distinct;
-      standing = subst (λ k. AllStand next k c.record_at-old.new.standings.items) same (rw (c.notify.ensures.nodes d) (stand_notified after (vec_len c.loop-number.standings) c.record_at-old.new.standings.items _ _ _ settled.standing));
+      standing = subst (λ k. AllStand next k c.record_at-old.new.standings) same (rw (c.notify.ensures.nodes d) (stand_notified after (length c.loop-number.standings) c.record_at-old.new.standings _ _ _ settled.standing));
       spread = spread_trans start nodes next c.loop-number.invariant.spread turn.spread;
       capacity = c.notify.ensures.capacity ∙ (c.in-Some.ensures.capacity ∙ c.loop-number.invariant.capacity);
       frames = c.notify.ensures.frames ∙ (settled.frames ∙ c.loop-number.invariant.frames);
@@ -120,9 +120,9 @@ note_landing-requires c none =
     let nodes = nodes_of heads in
     let q = c.in-Some.number in
     let s = c.in-Some-index_of.index in
-    let S = subst (Spreading Sinks nodes (vec_len c.args.standings.now)) c.in-Some.ensures.items c.loop-number.invariant.spreading in
+    let S = subst (Spreading Sinks nodes (length c.args.standings.now)) c.in-Some.ensures.items c.loop-number.invariant.spreading in
     let found = c.in-Some-index_of.ensures.found in
-    let here = last_waits nodes (vec_len c.args.standings.now) c.pop.new.self.items q S in
+    let here = last_waits nodes (length c.args.standings.now) c.pop.new.self.items q S in
     let d = here.0 in
     let is = node_is heads q s here.0 d (rising_indices heads S.rising) found here.1 here.2 in
     let told = ap (λ p. is_pending p pending.Nothing) (sym (ap now is) ∙ (sym (c.record_at-old.ensures.new d) ∙ none)) in
@@ -134,8 +134,8 @@ note_landing-requires c none =
 absent : (c : goal.In_default-index_of) → ⊥
 absent c =
     let nodes = nodes_of c.loop-number.heads.list.items in
-    let S = subst (Spreading Sinks nodes (vec_len c.args.standings.now)) c.in-Some.ensures.items c.loop-number.invariant.spreading in
-    let x = last_waits nodes (vec_len c.args.standings.now) c.pop.new.self.items c.in-Some.number S in
+    let S = subst (Spreading Sinks nodes (length c.args.standings.now)) c.in-Some.ensures.items c.loop-number.invariant.spreading in
+    let x = last_waits nodes (length c.args.standings.now) c.pop.new.self.items c.in-Some.number S in
     none_of_number c.loop-number.heads.list.items c.in-Some.number x.0 (c.in_default-index_of.ensures.none) x.1 x.2
 
 pub loop-number-smaller : goal.loop-number-smaller
@@ -147,10 +147,10 @@ loop-number-preserved c = absurd (absent c)
 pub returns-clause-settled : goal.returns-clause-settled
 returns-clause-settled c =
     -- nothing waits where nothing was popped
-    let left : Spreading Sinks (nodes_of c.loop-number.heads.list.items) (vec_len c.args.standings.now) [] = grind (arith, nil_from_length) in
-    settled_spread (nodes_of c.loop-number.heads.list.items) (vec_len c.args.standings.now) left
+    let left : Spreading Sinks (nodes_of c.loop-number.heads.list.items) (length c.args.standings.now) [] = grind (arith, nil_from_length) in
+    settled_spread (nodes_of c.loop-number.heads.list.items) (length c.args.standings.now) left
 
 pub returns-clause-placed : goal.returns-clause-placed
 returns-clause-placed c =
-    let left : Spreading Sinks (nodes_of c.loop-number.heads.list.items) (vec_len c.args.standings.now) [] = grind (arith, nil_from_length) in
-    cascaded_heads c.args.heads.now.list.items c.loop-number.heads.list.items (vec_len c.args.standings.now) left c.loop-number.invariant.spread
+    let left : Spreading Sinks (nodes_of c.loop-number.heads.list.items) (length c.args.standings.now) [] = grind (arith, nil_from_length) in
+    cascaded_heads c.args.heads.now.list.items c.loop-number.heads.list.items (length c.args.standings.now) left c.loop-number.invariant.spread

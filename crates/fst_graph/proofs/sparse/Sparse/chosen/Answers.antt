@@ -1,9 +1,9 @@
-use Rattle.std.proofs.Common.{[], refl, ◌∙◌, ◌<◌, ap, subst, sym, arith}
+use Rattle.std.proofs.Common.{[], refl, ◌≡◌, get_or, ◌∙◌, ◌<◌, ap, subst, sym, arith}
 use Rattle.fst_heads.specs.{Heads.patches_of, Names.numbers_of, Nodes.nodes_of, Standings.is_ready_on, Stretches.LieIn, declared.standing.Standing.Standing}
 use Rattle.fst_heads.proofs.Counts.{ready_counted}
 use Rattle.fst_levels.proofs.Resting.{empty_set, chosen_ready, chosen_refused}
 use Rattle.fst_graph.proofs.{Flagged.unspared, Grouped.{failed, fine}, RememberedLooks.{choice, ready}}
-use Rattle.fst_graph.proofs.Sound.{its_list, many_lists, view_gone, with_prepared}
+use Rattle.fst_graph.proofs.Sound.{as_many_standings, its_list, many_lists, view_gone, with_prepared}
 use Rattle.fst_graph.proofs.sparse.Sparse.chosen.Goals.{After-deref-2}
 use Rattle.fst_graph.proofs.sparse.Sparse.chosen.Goals as goal
 
@@ -19,18 +19,22 @@ within c =
     let many = many_lists c.self.invariant.0 c.deref.result.now c.deref.ensures.value in
     omega (arith, lt, many)
 
+-- the block stands as is told
+told : (c : After-deref-2) → c.at-standing.result ≡ get_or c.self.inside.standings c.args.block.0 c.at-standing.result
+told c = c.at-standing.ensures.inside c.at-standing.result (omega (arith, within c, as_many_standings c.self.invariant.0))
+
 pub ready_set-requires-clause-ready : goal.ready_set-requires-clause-ready
 ready_set-requires-clause-ready c =
     let b = c.args.block.0 in
-    let own = c.index-standing.result.now in
-    let ready = ap (λ (s : Standing). s.ready) (c.index-standing.ensures ∙ c.self.invariant.0.tallies.standing.each b own (within c)) in
+    let own = c.at-standing.result in
+    let ready = ap (λ (s : Standing). s.ready) (told c ∙ c.self.invariant.0.tallies.standing.each b own (within c)) in
     omega (arith, ready_counted b (nodes_of c.self.inside.columns.heads.list.items), ready)
 
 pub ready_set-requires-clause-lie : goal.ready_set-requires-clause-lie
 ready_set-requires-clause-lie c =
     let b = c.args.block.0 in
-    let own = c.index-standing.result.now in
-    subst (λ (s : Standing). LieIn (is_ready_on b) (nodes_of c.self.inside.columns.heads.list.items) s.ready_in) (sym c.index-standing.ensures) (c.self.invariant.0.tallies.standing.lie b own (within c)).ready
+    let own = c.at-standing.result in
+    subst (λ (s : Standing). LieIn (is_ready_on b) (nodes_of c.self.inside.columns.heads.list.items) s.ready_in) (sym (told c)) (c.self.invariant.0.tallies.standing.lie b own (within c)).ready
 
 pub returns-in_default-clause-ok : goal.returns-in_default-clause-ok
 returns-in_default-clause-ok c =
@@ -48,10 +52,10 @@ returns c =
     let D = c.self.invariant.0.keeps.lawful.on_disk_with_all in
     record {
       ok =
-          rw (← c.self.view_is) (fine c.ready_set.result (λ numbers set. (choice _ (patches_of heads) G D b (numbers_of numbers.items)).1 set) (chosen_ready heads s.numbers s.blocks s.columns.ends.up.walk.marks _ s.standings.items s.columns.queue.items s.columns.queue.cap b c.self.invariant.0.keeps c.self.invariant.0.tallies c.ready_set.result
+          rw (← c.self.view_is) (fine c.ready_set.result (λ numbers set. (choice _ (patches_of heads) G D b (numbers_of numbers.items)).1 set) (chosen_ready heads s.numbers s.blocks s.columns.ends.up.walk.marks _ s.standings s.columns.queue.items s.columns.queue.cap b c.self.invariant.0.keeps c.self.invariant.0.tallies c.ready_set.result
           (c.ready_set.ensures.ok)));
       refused =
-          rw (← c.self.view_is) (failed c.ready_set.result (λ f some. ((ready _ (patches_of heads) G D b).1 some.0, some.1)) (chosen_refused heads s.numbers s.blocks s.columns.ends.up.walk.marks _ s.standings.items s.columns.queue.items s.columns.queue.cap b c.self.invariant.0.keeps c.self.invariant.0.tallies c.ready_set.result
+          rw (← c.self.view_is) (failed c.ready_set.result (λ f some. ((ready _ (patches_of heads) G D b).1 some.0, some.1)) (chosen_refused heads s.numbers s.blocks s.columns.ends.up.walk.marks _ s.standings s.columns.queue.items s.columns.queue.cap b c.self.invariant.0.keeps c.self.invariant.0.tallies c.ready_set.result
           (c.ready_set.ensures.refused)));
       same = rw (← c.self.view_is, c.let_go.ensures) refl;
     }

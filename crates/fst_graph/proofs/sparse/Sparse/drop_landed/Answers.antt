@@ -57,7 +57,6 @@ invariant_of-self c =
         leveled = c.ease.ensures.leveled _ _ (rw (left at) (leveled_as c.forget.ensures.ranks c.forget.ensures.rest.0 (left_is_leveled (patches_of heads) S.keeps.lawful.one_place_each.rising S.keeps.lawful.on_disk_with_all blocks c.self.inside.columns.levels S.leveled)));
         needing = rw (left at) (needing_left (patches_of heads) S.keeps.lawful.one_place_each.rising S.keeps.lawful.on_disk_with_all kept.lawful.one_place_each.rising kept.lawful.on_disk_with_all S.needing);
         given = S.given;
-        none_below = S.none_below;
         prepared = rw c.let_go.ensures tt;
       },
       record {

@@ -18,9 +18,9 @@ land_block-requires c =
     let b = c.args.block.0 in
     let S = c.self.invariant.0 in
     let T = S.tallies in
-    let own = c.standing_at-standing in
-    let told : b < s.blocks → own.result ≡ get_or s.standings.items b none_yet = λ inside.
-    own.ensures.inside none_yet (rw c.deref.ensures.value (omega (arith, inside, T.standing.long))) ∙ ap (λ xs. get_or xs b none_yet) c.deref.ensures.value in
+    let own = c.at in
+    let told : b < s.blocks → own.result ≡ get_or s.standings b none_yet = λ inside.
+    own.ensures.inside none_yet (omega (arith, inside, T.standing.long)) in
     record {
       inside = subst (IsInside (patches_of heads)) (sym (as_many_lists S)) S.keeps.inside;
       listed =
@@ -33,7 +33,7 @@ land_block-requires c =
             omega (arith, flying_counted b heads, many)
         | inr past ↦
             let none = nothing_flies b heads (λ p h. is_off b p.kind (λ on. let lt = S.keeps.inside p b h on in omega (arith, lt, past))) in
-            ap length none ∙ sym (ap (λ (t : Standing). t.flying) (own.ensures.outside (rw c.deref.ensures.value (omega (arith, past, T.standing.long)))))
+            ap length none ∙ sym (ap (λ (t : Standing). t.flying) (own.ensures.outside (omega (arith, past, T.standing.long))))
       ];
       lie = elim (cases_lt b s.blocks) [
         | inl inside ↦ subst (λ (t : Standing). LieIn (is_flying_on b) (nodes_of heads) t.flying_in) (sym (told inside)) (T.standing.lie b none_yet inside).flying
@@ -51,7 +51,7 @@ cascade-landed-requires c = record {
       let blocks = c.self.inside.blocks in
       let K = c.self.invariant.0.keeps in
       let T = c.self.invariant.0.tallies in
-      rw (c.land_block.ensures.nodes, c.land_block.ensures.queued, ← patches_in_nodes heads, c.land_at.ensures.len, as_many_standings c.self.invariant.0)
+      rw (c.land_block.ensures.nodes, c.land_block.ensures.queued, ← patches_in_nodes heads, c.land.ensures.len, as_many_standings c.self.invariant.0)
       (starts_landed (nodes_of heads) n blocks c.args.block.0 (lawful_nodes heads n K.lawful) (inside_nodes heads blocks K.inside) T.settled);
   linked = rw c.land_block.ensures.nodes (linked_landed (nodes_of c.self.inside.columns.heads.list.items) c.args.block.0 c.self.invariant.0.tallies.linked);
   distinct = rw c.land_block.ensures.nodes (distinct_landed (nodes_of c.self.inside.columns.heads.list.items) c.args.block.0 c.self.invariant.0.tallies.distinct);
@@ -59,9 +59,9 @@ cascade-landed-requires c = record {
       let heads = c.self.inside.columns.heads.list.items in
       let blocks = c.self.inside.blocks in
       let T = c.self.invariant.0.tallies in
-      rw (c.land_block.ensures.nodes, c.land_at.ensures.len, as_many_standings c.self.invariant.0)
-      (stand_land (nodes_of heads) blocks c.args.block.0 c.self.inside.standings.items c.land_at.new.standings.items (inside_nodes heads blocks c.self.invariant.0.keeps.inside) T.standing
-      (λ d lt. c.land_at.ensures.inside d (omega (arith, lt, as_many_standings c.self.invariant.0))) (λ le. c.land_at.ensures.outside (omega (arith, le, as_many_standings c.self.invariant.0))));
+      rw (c.land_block.ensures.nodes, c.land.ensures.len, as_many_standings c.self.invariant.0)
+      (stand_land (nodes_of heads) blocks c.args.block.0 c.self.inside.standings c.land.new.self (inside_nodes heads blocks c.self.invariant.0.keeps.inside) T.standing
+      (λ d lt. c.land.ensures.inside d (omega (arith, lt, as_many_standings c.self.invariant.0))) (λ le. c.land.ensures.outside (omega (arith, le, as_many_standings c.self.invariant.0))));
   listed = rw c.land_block.ensures.nodes (landed_map (lands c.args.block.0) (nodes_of c.self.inside.columns.heads.list.items) c.self.inside.landed.items (λ x. record { number = landed_number c.args.block.0 x.patch; pending = refl; forgotten = refl }) c.self.invariant.1.told);
   room =
       let same = ap length c.land_block.ensures.nodes in (
@@ -81,7 +81,7 @@ cascade c =
     subst (λ ps. IsCascadeOf ps (patches_of c.cascade-landed.new.heads.list.items)) was c.cascade-landed.ensures.placed
 
 settled : (c : After-cascade-landed) → AreSettled (nodes_of c.cascade-landed.new.heads.list.items) c.self.inside.blocks
-settled c = subst (AreSettled (nodes_of c.cascade-landed.new.heads.list.items)) (c.land_at.ensures.len ∙ as_many_standings c.self.invariant.0) c.cascade-landed.ensures.settled
+settled c = subst (AreSettled (nodes_of c.cascade-landed.new.heads.list.items)) (c.land.ensures.len ∙ as_many_standings c.self.invariant.0) c.cascade-landed.ensures.settled
 
 spread : (c : After-cascade-landed) → IsSpreadOf (map (lands c.args.block.0) (nodes_of c.self.inside.columns.heads.list.items)) (nodes_of c.cascade-landed.new.heads.list.items)
 spread c = subst (λ ns. IsSpreadOf ns (nodes_of c.cascade-landed.new.heads.list.items)) c.land_block.ensures.nodes c.cascade-landed.ensures.spread
@@ -114,12 +114,12 @@ invariant_of-self c =
     let T = c.self.invariant.0.tallies in
     let long = as_many_lists c.self.invariant.0 in
     let at = (goal.at.invariant_of-self c).After-cascade-landed in
-    let standing = subst (λ k. AllStand (nodes_of new) k c.cascade-landed.new.standings.items) (c.land_at.ensures.len ∙ as_many_standings c.self.invariant.0) c.cascade-landed.ensures.standing in
+    let standing = subst (λ k. AllStand (nodes_of new) k c.cascade-landed.new.standings) (c.land.ensures.len ∙ as_many_standings c.self.invariant.0) c.cascade-landed.ensures.standing in
     let kept = keeps_landed old (patches_of new) n blocks b c.self.inside.columns.ends.up.walk.marks c.self.inside.columns.ends.up.walk.marks c.self.invariant.0.keeps (cascade at) refl in
     let listed : AreListed (patches_in (map (lands b) nodes)) blocks (shelved c.land_block.new.lists.items) =
     subst (λ k. AreListed (patches_in (map (lands b) nodes)) k (shelved c.land_block.new.lists.items)) long
     (subst (λ ps. AreListed ps (length lists) (shelved c.land_block.new.lists.items)) (seen mid _ c.land_block.ensures.nodes) c.land_block.ensures.listed) in
-    let tallied : Tallies (nodes_of new) n blocks (shelved c.land_block.new.lists.items) c.cascade-landed.new.standings.items [] (vec_capacity c.self.inside.columns.queue) =
+    let tallied : Tallies (nodes_of new) n blocks (shelved c.land_block.new.lists.items) c.cascade-landed.new.standings [] (vec_capacity c.self.inside.columns.queue) =
     tallies_landed nodes (nodes_of new) n blocks b _ _ _ _ _ _ (lawful_nodes new n kept.lawful) T listed (spread at) (settled at) standing in
     let shelves = c.land_block.new.lists.items in
     let as_many : length shelves ≡ blocks = sym (length-map shelves (λ l. entries_of l.items)) ∙ tallied.listed.long in
@@ -133,10 +133,9 @@ invariant_of-self c =
         along = c.self.invariant.0.along;
         leveled =
             let after = leveled_moved (alike_landed old (patches_of new) n b c.self.invariant.0.keeps.lawful (cascade at)) c.self.invariant.0.leveled in
-            c.sink_floor.ensures.leveled (patches_of new) kept.lawful.one_place_each.rising (rw c.deref-2.ensures.value listed_now) blocks after;
-        needing = needing_landed {kept = c.land.new.self} old (patches_of new) n b c.self.invariant.0.keeps.lawful kept.lawful (cascade at) c.land.ensures.lists c.land.ensures.ways c.self.invariant.0.needing;
-        given = λ w k. c.self.invariant.0.given w (let l = c.land.ensures.ways w k in l.0);
-        none_below = λ b d lt. absurd (omega (arith, lt));
+            c.sink_floor.ensures.leveled (patches_of new) kept.lawful.one_place_each.rising (rw c.deref.ensures.value listed_now) blocks after;
+        needing = needing_landed {kept = c.land-2.new.self} old (patches_of new) n b c.self.invariant.0.keeps.lawful kept.lawful (cascade at) c.land-2.ensures.lists c.land-2.ensures.ways c.self.invariant.0.needing;
+        given = λ w k. c.self.invariant.0.given w (let l = c.land-2.ensures.ways w k in l.0);
         prepared = rw c.let_go.ensures tt;
       },
       rw c.let_go.ensures (remembered_still heads new (same_flags at) c.cascade-landed.ensures.listed c.cascade-landed.ensures.shelf c.self.invariant.1),

@@ -41,7 +41,6 @@ invariant_of-self c =
         leveled = c.ease.ensures.leveled _ _ (rw same S.leveled);
         needing = rw same S.needing;
         given = S.given;
-        none_below = S.none_below;
         prepared = rw c.let_go.ensures tt;
       },
       record {

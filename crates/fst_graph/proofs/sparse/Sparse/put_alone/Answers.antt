@@ -59,12 +59,10 @@ sound : (c : After-put-2)
       covers = with_item c.self.inside.covers c.in-Some.prepared.block c.put-2.new.self;
       standings = c.enlist.new.standings;
       live = c.self.inside.live + 1;
-      unmarked = c.min-self-inside.result;
       numbers = c.self.inside.numbers + 1;
       prepared = None;
     })
 sound c D =
-    let least = c.min-self-inside.ensures in
     change_sound c.self.invariant.0 D
     c.rise_of-rise.new.walk c.rise_of-rise.new.crossed c.put_down-pending.ensures.put c.put_down-pending.ensures.pending refl c.as_slice-row.ensures c.rise_of-rise.ensures.rise c.rise_of-rise.ensures.long
     refl c.lift.ensures.leveled c.lift.ensures.below c.lift.ensures.lifted c.lift.ensures.still
@@ -74,7 +72,6 @@ sound c D =
     c.enlist.ensures.listed
     c.index_mut.ensures.value c.put-2.ensures refl
     c.enlist.ensures.entered
-    (omega (arith, least)) (omega (arith, least))
 
 -- what is forgotten stays so, and of what landed nothing else
 still : (c : After-put-2)
@@ -231,6 +228,3 @@ overflow_add-self c =
 
 pub overflow_cast-block : goal.overflow_cast-block
 overflow_cast-block c = omega (arith, (now (goal.at.overflow_cast-block c).After-as_slice-row).down.ready.inside, c.self.ranges)
-
-pub overflow_cast-block-2 : goal.overflow_cast-block-2
-overflow_cast-block-2 c = omega (arith, (now (goal.at.overflow_cast-block-2 c).After-as_slice-row).down.ready.inside, c.self.ranges)

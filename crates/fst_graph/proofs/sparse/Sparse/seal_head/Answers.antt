@@ -75,7 +75,7 @@ invariant_of-self c =
     let as_many : length (remembered_of new.list.items) ≡ length (remembered_of s.columns.heads.list.items) = standing_as s.columns.heads.list.items new.list.items (marks at) (rising_nodes s.columns.heads.list.items (rising_sound c.self.invariant.0)) (rising_nodes new.list.items (rising_sound sound)) in (
       with_prepared
           sound
-          (if_prepared c.self.invariant.0 (IsPrepared (record s { columns = record s.columns { heads = new; levels = c.renew.new.levels; queue = c.cascade-landed.new.queue }; standings = c.cascade-landed.new.standings; landed = c.cascade-landed.new.landed; live = s.live - c.cascade-landed.result; unmarked = 0 })) (λ p is k. record {
+          (if_prepared c.self.invariant.0 (IsPrepared (record s { columns = record s.columns { heads = new; levels = c.renew.new.levels; queue = c.cascade-landed.new.queue }; standings = c.cascade-landed.new.standings; landed = c.cascade-landed.new.landed; live = s.live - c.cascade-landed.result })) (λ p is k. record {
             ready = put_begun (patches_of s.columns.heads.list.items) s.numbers s.blocks s.columns.ends.up.walk.marks c.self.invariant.0.keeps g (patches_of new.list.items) open_gate cascade (remembered_of s.columns.heads.list.items) (remembered_of new.list.items) p as_many (head_told s.prepared s.numbers c.requires.0 g p (ap (λ k. k.prepared) c.self.view_is ∙ c.requires.1) c.requires.2 is) k.ready;
             places = places_kept heads_long (C.places ∙ c.seal_at.ensures.places) refl (c.renew.ensures.room.0 ∙ c.lower.ensures.room.0, c.renew.ensures.room.1 ∙ c.lower.ensures.room.1) k.places;
             waits = omega (arith, heads_long, C.capacity, c.seal_at.ensures.capacity, k.waits);

@@ -1,4 +1,4 @@
-use Rattle.std.proofs.Common.{◌≡◌, ◌∙◌, ap, arith, get_or, refl, vec_capacity, vec_len}
+use Rattle.std.proofs.Common.{ap, arith, get_or, refl, vec_capacity, vec_len}
 use Rattle.std.proofs.lemmas.List.{get_or-map}
 use Rattle.fst_heads.proofs.Indices.{any_default}
 use Rattle.fst_levels.proofs.Shelves.{shelved_push}
@@ -13,13 +13,14 @@ push_reserved-requires c =
     omega (arith, c.requires.room, len, capacity, ap (λ l. vec_len l) there, ap (λ l. vec_capacity l) there)
 
 pub enter-requires : goal.enter-requires
-enter-requires c = let k = c.requires.few c.index_mut-2.result.now c.index_mut-2.ensures.value in record { ready = k.0; held = k.1 }
+enter-requires c = record {
+  inside = c.requires.standing;
+  ready = λ d. let k = c.requires.few (get_or c.args.standings.now c.args.block d) (any_default c.args.standings.now c.args.block d _ c.requires.standing) in k.0;
+  held = λ d. let k = c.requires.few (get_or c.args.standings.now c.args.block d) (any_default c.args.standings.now c.args.block d _ c.requires.standing) in k.1;
+}
 
 pub returns-clause-listed : goal.returns-clause-listed
 returns-clause-listed c = shelved_push c.args.lists.now.items c.args.block c.index_mut.result.now c.push_reserved.new.self c.args.listed c.requires.list c.index_mut.ensures.value c.push_reserved.ensures.items
 
 pub returns-clause-entered : goal.returns-clause-entered
-returns-clause-entered c d =
-    let own = c.index_mut-2.result.now in
-    let there : own ≡ get_or c.args.standings.now.items c.args.block d = c.index_mut-2.ensures.value ∙ any_default c.args.standings.now.items c.args.block own d c.requires.standing in
-    rw (c.enter.ensures, c.is_of_block-is_ready.ensures, ← there) refl
+returns-clause-entered c d = rw (c.enter.ensures d, c.is_of_block-is_ready.ensures) refl

@@ -1,26 +1,21 @@
-use Rattle.fst_heads.proofs.Basics.{◌≡◌, ◌<◌, ◌∙◌, ◌&&◌, ℕ, Bool, List, length, set, get_or, vec_len, Vec, Global, true, false, refl, sym, ap, subst, arith, and_right, rules, common_steps}
+use Rattle.fst_heads.proofs.Basics.{◌≡◌, ◌<◌, ◌∙◌, ◌&&◌, ℕ, Bool, List, length, set, get_or, true, false, refl, sym, ap, subst, arith, and_right, rules, common_steps}
 use Rattle.fst_heads.proofs.Patches.{Grade, Place, is_at, is_on}
 use Rattle.fst_heads.proofs.Words.{Head, Standing, kind_of, Node, node_of, nodes_of, Pending, Fits, Sinks, is_pending, now, is_recorded, recorded, AllStand}
 use Rattle.fst_heads.proofs.{Framed.frames_set, AtNumber.at_index, Releasing.{node_at, few_ready, some_held, stand_freed, stand_held, stand_told}}
-use Rattle.fst_heads.proofs.{Indices.index_here, PendingAt.node_in}
+use Rattle.fst_heads.proofs.{Indices.{any_default, index_here}, PendingAt.node_in}
 use Rattle.fst_types.specs.declared.span.Span.{Span}
+use Rattle.fst_heads.specs.Standings.{without_changes}
 use Rattle.fst_heads.proofs.Patches.place
 use Rattle.fst_heads.proofs.Words.pending
 use Rattle.fst_heads.specs.declared.head.Kind.{Kind}
 use Rattle.fst_heads.specs.declared.head.Kind.TheVariants as kinds
-use Rattle.fst_heads.proofs.standing.record_at.Goals as goal
-use Rattle.fst_heads.proofs.standing.record_at.Goals.{in-Change+in-Memory+then-is_pending, in-Change+in-Memory+else-is_pending, in-Change+in_default-place, in_default}
+use Rattle.fst_heads.proofs.cascade.record_at.Goals as goal
+use Rattle.fst_heads.proofs.cascade.record_at.Goals.{in-Change+in-Memory+then-is_pending, in-Change+in-Memory+else-is_pending, in-Change+in_default-place, in_default}
 
 pub pending_now-new-requires : goal.pending_now-new-requires
 pending_now-new-requires c =
     let h = c.index_mut-head.result.now in
     subst (λ (x : Node). Fits x.sums) (node_at c.args.heads.now.list.items c.args.index h (node_of h) (omega (arith, c.requires.index, c.args.heads.now.list.ok.0)) c.index_mut-head.ensures.value) (c.requires.stale (node_of h)).fits
-
-pub index_mut-requires : goal.index_mut-requires
-index_mut-requires c =
-    let h = c.index_mut-head.result.now in
-    c.requires.inside (node_of h) c.in-Change.block c.in-Change.field-2.at c.in-Change.field-2.len c.in-Change.field-0
-    (node_in c.args.heads.now.list.items c.args.index h (omega (arith, c.requires.index, c.args.heads.now.list.ok.0)) c.index_mut-head.ensures.value) (ap kind_of c.in-Change.is)
 
 -- the facts of the index at the head that stands there
 index_sinks : (heads : List Head) (s : ℕ) (h : Head) → get_or (nodes_of heads) s (node_of h) ≡ node_of h → ((d : Node) → Sinks (get_or (nodes_of heads) s d).pending (now (get_or (nodes_of heads) s d))) → Sinks h.pending (now (node_of h))
@@ -50,17 +45,23 @@ release-requires c =
     let heads = c.args.heads.now.list.items in
     let s = c.args.index in
     let h = c.index_mut-head.result.now in
+    let b = c.in-Change.block in
     let lt : s < length heads = omega (arith, c.requires.index, c.args.heads.now.list.ok.0) in
     let e = c.index_mut-head.ensures.value in
     let at = node_at heads s h (node_of h) lt e in
-    let inside = c.requires.inside (node_of h) c.in-Change.block c.in-Change.field-2.at c.in-Change.field-2.len c.in-Change.field-0 (node_in heads s h lt e) (ap kind_of c.in-Change.is) in
-    let few = few_ready heads s h lt e (vec_len c.args.standings.now) c.args.standings.now.items c.requires.standing
-    c.in-Change.block c.in-Change.field-2.at c.in-Change.field-2.len c.in-Change.field-0 (ap kind_of c.in-Change.is) c.in-Memory.is
-    (index_sinks heads s h at (λ d. (c.requires.stale d).sinks)) (index_stale heads s h at (λ d. (c.requires.stale d).stale)) inside c.index_mut.result.now c.index_mut.ensures.value
-    (is_block_now h c.pending_now-new.result c.in-Change.block c.pending_now-new.ensures (sym c.is_pending.ensures ∙ c.if-is_pending.true)) in
+    let standings = c.args.standings.now in
+    let inside = c.requires.inside (node_of h) b c.in-Change.field-2.at c.in-Change.field-2.len c.in-Change.field-0 (node_in heads s h lt e) (ap kind_of c.in-Change.is) in
+    let few : (d : Standing) → (get_or standings b d).ready < length heads = λ d.
+    few_ready heads s h lt e (length standings) standings c.requires.standing
+    b c.in-Change.field-2.at c.in-Change.field-2.len c.in-Change.field-0 (ap kind_of c.in-Change.is) c.in-Memory.is
+    (index_sinks heads s h at (λ x. (c.requires.stale x).sinks)) (index_stale heads s h at (λ x. (c.requires.stale x).stale)) inside (get_or standings b d) (any_default standings b d (get_or standings b d) inside)
+    (is_block_now h c.pending_now-new.result b c.pending_now-new.ensures (sym c.is_pending.ensures ∙ c.if-is_pending.true)) in
     record {
-      ready = omega (arith, few, c.args.heads.now.list.ok.0, c.args.heads.now.list.ok.1, c.args.heads.now.list.small);
-      held = grind (arith, common_steps, some_held, index_sinks, index_stale);
+      inside = rw c.from.ensures inside;
+      ready = rw c.from.ensures (λ d. omega (arith, few d, c.args.heads.now.list.ok.0, c.args.heads.now.list.ok.1, c.args.heads.now.list.small));
+      held = rw c.from.ensures (λ d hard. some_held heads s h lt e (length standings) standings c.requires.standing
+          b c.in-Change.field-2.at c.in-Change.field-2.len c.in-Change.field-0 (ap kind_of c.in-Change.is) c.in-Memory.is
+          (index_sinks heads s h at (λ x. (c.requires.stale x).sinks)) (index_stale heads s h at (λ x. (c.requires.stale x).stale)) inside (get_or standings b d) (any_default standings b d (get_or standings b d) inside) hard);
     }
 
 pub returns-clause-nodes : goal.returns-clause-nodes
@@ -78,24 +79,26 @@ returns-clause-standing c =
     let same : node_of after ≡ recorded (node_of h) = ap (λ p. node_of (record h { pending = p })) c.pending_now-new.ensures in
     elim c.match-head.branch [
       | in-Change+in-Memory+else-is_pending w ↦
-          subst (λ (v : Vec Standing Global). AllStand (nodes_of (set heads s after)) (vec_len c.args.standings.now) v.items) (sym w.standings-is)
-          (stand_held heads s h lt e (vec_len c.args.standings.now) c.args.standings.now.items c.requires.standing
+          subst (λ v. AllStand (nodes_of (set heads s after)) (length c.args.standings.now) v) (sym w.standings-is)
+          (stand_held heads s h lt e (length c.args.standings.now) c.args.standings.now c.requires.standing
           w.in-Change.block w.in-Change.field-2.at w.in-Change.field-2.len w.in-Change.field-0 (ap kind_of w.in-Change.is) w.in-Memory.is
           (index_sinks heads s h at (λ d. (c.requires.stale d).sinks)) (index_stale heads s h at (λ d. (c.requires.stale d).stale))
           after same (not_block_now h c.pending_now-new.result w.in-Change.block c.pending_now-new.ensures (sym w.is_pending.ensures ∙ w.if-is_pending.false)))
       | in-Change+in-Memory+then-is_pending w ↦
-          let inside = c.requires.inside (node_of h) w.in-Change.block w.in-Change.field-2.at w.in-Change.field-2.len w.in-Change.field-0 (node_in heads s h lt e) (ap kind_of w.in-Change.is) in
-          subst (λ (v : Vec Standing Global). AllStand (nodes_of (set heads s after)) (vec_len c.args.standings.now) v.items) (sym w.standings-is)
-          (stand_freed heads s h lt e (vec_len c.args.standings.now) c.args.standings.now.items c.requires.standing
-          w.in-Change.block w.in-Change.field-2.at w.in-Change.field-2.len w.in-Change.field-0 (ap kind_of w.in-Change.is) w.in-Memory.is
-          (index_sinks heads s h at (λ d. (c.requires.stale d).sinks)) (index_stale heads s h at (λ d. (c.requires.stale d).stale)) inside w.index_mut.result.now w.index_mut.ensures.value
-          (is_block_now h c.pending_now-new.result w.in-Change.block c.pending_now-new.ensures (sym w.is_pending.ensures ∙ w.if-is_pending.true)) after same w.release.new.self w.release.ensures)
+          let b = w.in-Change.block in
+          let inside = c.requires.inside (node_of h) b w.in-Change.field-2.at w.in-Change.field-2.len w.in-Change.field-0 (node_in heads s h lt e) (ap kind_of w.in-Change.is) in
+          let st = get_or c.args.standings.now b without_changes in
+          rw (w.standings-is, w.release.ensures without_changes, w.from.ensures)
+          (stand_freed heads s h lt e (length c.args.standings.now) c.args.standings.now c.requires.standing
+          b w.in-Change.field-2.at w.in-Change.field-2.len w.in-Change.field-0 (ap kind_of w.in-Change.is) w.in-Memory.is
+          (index_sinks heads s h at (λ d. (c.requires.stale d).sinks)) (index_stale heads s h at (λ d. (c.requires.stale d).stale)) inside st (any_default c.args.standings.now b without_changes st inside)
+          (is_block_now h c.pending_now-new.result b c.pending_now-new.ensures (sym w.is_pending.ensures ∙ w.if-is_pending.true)) after same _ refl)
       | in-Change+in_default-place w ↦
-          subst (λ (v : Vec Standing Global). AllStand (nodes_of (set heads s after)) (vec_len c.args.standings.now) v.items) (sym w.standings-is)
-          (stand_told heads s h lt e (vec_len c.args.standings.now) c.args.standings.now.items c.requires.standing after same (λ b. off_memory h.place (is_on b (kind_of h.kind)) w.in_default-place.not-Memory))
+          subst (λ v. AllStand (nodes_of (set heads s after)) (length c.args.standings.now) v) (sym w.standings-is)
+          (stand_told heads s h lt e (length c.args.standings.now) c.args.standings.now c.requires.standing after same (λ b. off_memory h.place (is_on b (kind_of h.kind)) w.in_default-place.not-Memory))
       | in_default w ↦
-          subst (λ (v : Vec Standing Global). AllStand (nodes_of (set heads s after)) (vec_len c.args.standings.now) v.items) (sym w.standings-is)
-          (stand_told heads s h lt e (vec_len c.args.standings.now) c.args.standings.now.items c.requires.standing after same (λ b. off_change b h.kind (is_at h.place place.Memory) w.in_default.not-Change))
+          subst (λ v. AllStand (nodes_of (set heads s after)) (length c.args.standings.now) v) (sym w.standings-is)
+          (stand_told heads s h lt e (length c.args.standings.now) c.args.standings.now c.requires.standing after same (λ b. off_change b h.kind (is_at h.place place.Memory) w.in_default.not-Change))
     ]
 
 pub returns-clause-frames : goal.returns-clause-frames
