@@ -24,7 +24,7 @@ use crate::gates::{depend_fault, gain_names, gate_index};
 use crate::prepared::{Prepared, let_go};
 use fst_heads::cascade::{cascade, seal_at};
 use fst_heads::choice::{first_held, ready_set};
-use fst_heads::cover::{Cover, empty_covers};
+use fst_heads::cover::{Cover, clear_landed, empty_covers};
 use fst_heads::heads::Heads;
 use fst_heads::launch::launch;
 use fst_heads::lists::{Listed, empty_lists, land_block};
@@ -296,6 +296,7 @@ impl Sparse {
             self.standings.at(block.0),
             block.0,
         );
+        clear_landed(&mut self.covers, &self.lists, block.0);
         self.standings.land(block.0);
         self.needs.land(block.0);
         let landed = cascade(

@@ -38,6 +38,7 @@ mod Rising
 pub mod Carried
 mod Halves
 mod Telling
+mod Uncovered
 mod Passing
 mod Landing
 pub mod Indexed

@@ -2,18 +2,41 @@
 //! it, and of those over one byte it is enough to name the newest, since the others are below it. So a row is found by a
 //! look at the bytes of the new change alone, however many changes lie under it.
 
-ghost use Rattle.std.specs.Prelude.{◌≡◌, ◌≤◌, ◌<◌, ◌+◌, ◌++◌, ◌∷◌, [], ℕ, false, length, map, take, drop, vec_len, vec_capacity, Contains, IfOk, OnOk};
+ghost use Rattle.std.specs.Prelude.{◌≡◌, ◌≤◌, ◌<◌, ◌+◌, ◌++◌, ◌∷◌, [], ℕ, List, false, length, map, take, drop, vec_len, vec_capacity, Contains, IfOk, OnOk};
+ghost use Rattle.fst_types.specs.Patches.{Patch};
+ghost use Rattle.fst_heads.specs.Lists.{AreListed, entries_of};
 ghost use Rattle.fst_heads.specs.Covers.{AreCovered, AreParted, HasRoomForRuns, IsPut, SaysTheSame, last_in, newest_over};
 
+use crate::lists::Listed;
 use fst_types::Span;
 use std::alloc::{AllocError, Global};
 use std::marker::Model;
+
+// So many runs are moved twice sooner than a rotation moves them once.
+const FEW_FOLLOW: usize = 128;
 
 /// From this byte on, up to where the next run begins, the newest change has this number, 0 for none.
 #[derive(Clone, Copy)]
 pub struct Run {
     pub from: u32,
     pub number: u32,
+}
+
+// Two runs go between others. Where few follow, these move twice, which takes less than the room on the stack that a rotation
+// clears; where many do, they move once.
+fn put_between(runs: &mut Vec<Run>, first: usize, own: Run, end: Run)
+    requires within { first ≤ length runs.old.items }
+    requires room { vec_len runs.old + 2 ≤ vec_capacity runs.old }
+    ensures { runs.new.items ≡ take first runs.old.items ++ own ∷ end ∷ drop first runs.old.items }
+{
+    if runs.len() - first < FEW_FOLLOW {
+        runs.insert(first, end).unwrap();
+        runs.insert(first, own).unwrap();
+    } else {
+        runs.push_reserved(own);
+        runs.push_reserved(end);
+        runs[first..].rotate_right(2);
+    }
 }
 
 // Puts two runs in the place of those from the first on up to past. There is room for them, so that none is refused.
@@ -24,12 +47,7 @@ fn lay(runs: &mut Vec<Run>, first: usize, past: usize, own: Run, end: Run)
     ensures { runs.new.items ≡ take first runs.old.items ++ own ∷ end ∷ drop past runs.old.items }
 {
     match past - first {
-        0 => {
-            runs.push_reserved(own);
-            runs.push_reserved(end);
-            // What follows moves once.
-            runs[first..].rotate_right(2);
-        }
+        0 => put_between(runs, first, own, end),
         1 => {
             runs[first] = end;
             runs.insert(first, own).unwrap();
@@ -47,8 +65,9 @@ fn lay(runs: &mut Vec<Run>, first: usize, past: usize, own: Run, end: Run)
 
 /// The runs of a block, by the bytes that they begin at; before the first one no change was made. So it takes 16 bytes for
 /// each change at most, and no more than 8 for each byte of the block. A run is not taken out when its change lands: who
-/// reads a number looks whether it is live. `untold` is set for good where a change was made of the block of which the runs
-/// do not tell: one without a byte, or whose bytes end past `u32::MAX`.
+/// reads a number looks whether it is live. All are when no change of the block is left that is not on disk. `untold` is set
+/// until then where a change was made of the block of which the runs do not tell: one without a byte, or whose bytes end past
+/// `u32::MAX`.
 #[derive(Drop)]
 pub struct Cover {
     runs: Vec<Run>,
@@ -90,6 +109,15 @@ impl Cover {
         ensures room { OnOk result (HasRoomForRuns self.new) }
     {
         self.runs.reserve(2)
+    }
+
+    /// No change was made of the block, as far as it is told. What memory it took stays for the next ones.
+    pub fn clear(&mut self)
+        ensures runs { self.new.runs.items ≡ [] }
+        ensures untold { self.new.untold ≡ false }
+    {
+        self.runs.clear();
+        self.untold = false;
     }
 
     // How many runs begin before the byte.
@@ -150,6 +178,19 @@ impl Cover {
         let first = self.before(at + 1).saturating_sub(1);
         let past = self.before(at + u64::from(span.len));
         &self.runs[first.min(past)..past]
+    }
+}
+
+/// Where no change of the block is left that is not on disk, as its list says, its cover tells of none.
+pub fn clear_landed(covers: &mut Vec<Cover>, lists: &[Vec<Listed>], block: u32)
+    ensures { (patches : List Patch) → AreListed patches (length lists.now) (map (λ l. entries_of l.items) lists.now) → (blocks : ℕ) → AreCovered patches blocks covers.old.items → AreCovered patches blocks covers.new.items }
+{
+    if let Some(list) = lists.get(block as usize) {
+        if list.is_empty() {
+            if let Some(cover) = covers.get_mut(block as usize) {
+                cover.clear();
+            }
+        }
     }
 }
 

@@ -129,11 +129,11 @@ invariant_of-self c =
         keeps = kept;
         beside = beside_landed heads mid new (lands b) blocks c.self.inside.live c.cascade-landed.result c.self.inside.columns.ends.up.crossed.items c.land_block.ensures.nodes (λ x. refl) T.settled (settled at) c.cascade-landed.ensures.landed c.self.invariant.0.beside;
         tallies = rw (c.cascade-landed.ensures.empty, c.cascade-landed.ensures.capacity, c.land_block.ensures.capacity) tallied;
-        covered = covered_moved (alike_landed old (patches_of new) n b c.self.invariant.0.keeps.lawful (cascade at)) kept c.self.invariant.0.covered;
+        covered = c.clear_landed.ensures (patches_of new) (rw c.deref.ensures.value listed_now) blocks (covered_moved (alike_landed old (patches_of new) n b c.self.invariant.0.keeps.lawful (cascade at)) kept c.self.invariant.0.covered);
         along = c.self.invariant.0.along;
         leveled =
             let after = leveled_moved (alike_landed old (patches_of new) n b c.self.invariant.0.keeps.lawful (cascade at)) c.self.invariant.0.leveled in
-            c.sink_floor.ensures.leveled (patches_of new) kept.lawful.one_place_each.rising (rw c.deref.ensures.value listed_now) blocks after;
+            c.sink_floor.ensures.leveled (patches_of new) kept.lawful.one_place_each.rising (rw c.deref-2.ensures.value listed_now) blocks after;
         needing = needing_landed {kept = c.land-2.new.self} old (patches_of new) n b c.self.invariant.0.keeps.lawful kept.lawful (cascade at) c.land-2.ensures.lists c.land-2.ensures.ways c.self.invariant.0.needing;
         given = λ w k. c.self.invariant.0.given w (let l = c.land-2.ensures.ways w k in l.0);
         prepared = rw c.let_go.ensures tt;
