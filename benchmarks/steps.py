@@ -206,30 +206,35 @@ def gate_each():
     return made
 
 
-def joined_so(blocks, width):
-    """So many changes at a time, which a tree of empty patches joins two by two, and as many after that; 32,000 in all."""
+def joined_so(blocks, width, times, after):
+    """So many times so many changes, which a tree of empty patches joins two by two, and so many changes after that."""
     made = Script(blocks, 512)
 
     def anywhere(after):
         return made.patch(made.dice.randrange(blocks), made.dice.randrange(512), after)
 
-    for _ in range(16_000 // width):
+    for _ in range(times):
         row = [anywhere([]) for _ in range(width)]
         while len(row) > 1:
             row = [made.empty(row[at : at + 2]) for at in range(0, len(row), 2)]
-        for _ in range(width):
+        for _ in range(after):
             anywhere(row)
     return made
 
 
 def joined_by_trees():
     """A thousand times sixteen changes, which a tree of empty patches joins two by two, and sixteen changes after that."""
-    return joined_so(1024, 16)
+    return joined_so(1024, 16, 1000, 16)
 
 
 def joined_by_wide_trees():
-    """The same over 128 blocks, with sixty-four changes in the place of sixteen."""
-    return joined_so(128, 64)
+    """Over 128 blocks, 250 times sixty-four changes, which such a tree joins, and sixty-four after that."""
+    return joined_so(128, 64, 250, 64)
+
+
+def joined_for_few():
+    """A thousand times thirty-two changes, which such a tree joins, and four after that."""
+    return joined_so(1024, 32, 1000, 4)
 
 
 def fan_of_own():
@@ -272,7 +277,7 @@ def fan_in_flight():
 SHAPES = [
     ring_back, gates_in_a_chain, two_families, three_blocks, groups_in_a_chain, chains_of_groups, deep_below, tower,
     behind_a_gate, gate_each, deep_over, many_needs, block_of_soft_needs, block_beyond_soft_needs,
-    superblock_waits, joined_by_trees, joined_by_wide_trees, fan_of_own, fan_of_others, fan_in_flight,
+    superblock_waits, joined_by_trees, joined_by_wide_trees, joined_for_few, fan_of_own, fan_of_others, fan_in_flight,
 ]
 
 
