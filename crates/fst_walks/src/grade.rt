@@ -20,7 +20,7 @@ use crate::both_ends::grade_between;
 use crate::ends::Ends;
 use crate::graded::{Graded, hard, soft};
 use crate::other_gates::is_blocked;
-use crate::skim::grade_skimmed;
+use crate::skim::{grade_skimmed, meets_many};
 use fst_levels::ancestors::leads_to_block;
 use fst_levels::known::leads_over_known;
 use fst_levels::shortcuts::{is_clean, stays_below, waits_for_own_block};
@@ -58,8 +58,11 @@ fn grade_by_ways(sight: &Sight<'_>, ends: &mut Ends, block: u32, row: &[u32]) ->
     if let Some(told) = grade_below(sight, &mut ends.down, block, row) {
         return told;
     }
-    if let Some(told) = grade_skimmed(sight, &mut ends.down, block, row) {
-        return told;
+    // Where the walk down came to no block that needs thousands, going over blocks rarely tells.
+    if meets_many(sight, &ends.down.walk) {
+        if let Some(told) = grade_skimmed(sight, &mut ends.down, block, row) {
+            return told;
+        }
     }
     grade_between(sight, ends, block, row)
 }

@@ -41,6 +41,21 @@ pub(crate) fn needs_many(sight: &Sight<'_>, walk: &Walk, at: usize) -> bool
     }
 }
 
+/// Whether the walk has met a change of a block that needs many.
+pub(crate) fn meets_many(sight: &Sight<'_>, walk: &Walk) -> bool
+    requires sees { Sees sight.now }
+    requires walk { length walk.now.marks ≡ length sight.now.heads.now.list.items }
+{
+    for at in 0..walk.len() {
+        if let Kind::Change(_, block, _) = sight.heads.list[walk.index_at(at)].kind {
+            if sight.needs.count(u32::from(block)) > LONG {
+                return true;
+            }
+        }
+    }
+    false
+}
+
 // Visits the newest of what the block needs of that other block, if it is no lower than `least`.
 fn visit_newest(sight: &Sight<'_>, walk: &mut Walk, block: u32, turn: usize, least: u32)
     requires sees { Sees sight.now }
