@@ -14,13 +14,13 @@ use fst_heads::heads::Heads;
 use std::alloc::{AllocError, Global};
 
 /// How many changes below a row are gathered, and of how many of a longer row they are taken.
-pub const BELOW: usize = 16;
+pub const BELOW: usize = 32;
 
-// Through how many patches, and for how many gates and empty patches there is a place.
+// Through how many patches it goes, and how many gates and empty patches may wait for that.
 const THROUGH: usize = 32;
 
-/// What was gathered below a row: changes, and gates and empty patches that are to be gone through. It has places for sixteen
-/// of the one and thirty-two of the other, 4 bytes each.
+/// What was gathered below a row: changes, and gates and empty patches that are to be gone through. It has places for
+/// thirty-two of each, 4 bytes each.
 #[derive(Drop)]
 pub struct Below {
     pub changes: Vec<u32>,

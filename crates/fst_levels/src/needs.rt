@@ -38,7 +38,7 @@ pub struct Way {
 /// What each block needs. Of one block there is room for so many more. `latest` tells which need is the newest of each other
 /// block; `ways` has the known ways, as the numbers of their changes rise; `below` has what was gathered below a row
 /// last. It takes two lists and 8 bytes for each block, 4 bytes for each need, 16 for each block that one needs and 8 for
-/// each way, and 192 bytes.
+/// each way, and 256 bytes.
 #[derive(Drop)]
 pub struct Needs {
     lists: Vec<Vec<u32>>,
