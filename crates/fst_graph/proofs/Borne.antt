@@ -4,10 +4,9 @@ use Rattle.std.proofs.lemmas.{Bool.cases_lt, List.Elements.Contains-get_or, List
 use Rattle.std.specs.List.Sorted.{IsStrictlyIncreasing}
 use Rattle.fst_types.specs.{Dependencies.DirectlyOn, Facts.SparseAreLawful, Gates.IsOpenNumber, Limits.max_heads, Patches.Patch, Tests.is_live}
 use Rattle.fst_heads.specs.{Heads.{patches_of}, Keeps.{Beside, IsInside}, Nodes.{Node, nodes_of, patches_in, pending_in, AreDistinct, AreSettled, node_of}}
-use Rattle.fst_heads.specs.{Pendings.{Fits, IsOf, max_block, sums_of}, Spreading.{is_waiting, lands}, Standings.{AllStand, arrived, is_flying_on}, Stretches.LieIn, declared.{head.Head.Head, heads.Heads.Heads}, declared.standing.Standing.Standing, declared.stretch.Stretch.Stretch}
+use Rattle.fst_heads.specs.{Pendings.{Fits, IsOf, max_block, sums_of}, Spreading.{is_waiting, lands}, Standings.{AllStand, arrived, is_flying_on, without_changes}, Stretches.LieIn, declared.{head.Head.Head, heads.Heads.Heads}, declared.standing.Standing.Standing, declared.stretch.Stretch.Stretch}
 use Rattle.fst_types.proofs.Landing.{change_at}
 use Rattle.fst_heads.proofs.{AtNumber.patches_in_nodes, Beside.waiting_live, Few.gain_few, PendingIn.found, Placed.patch_in, Stands.{stand_landed, stand_landed_outside}, Sums.sums_fit}
-use Rattle.fst_levels.proofs.Resting.{none_yet}
 use Rattle.fst_types.specs.declared.place.Place.TheVariants as place
 use Rattle.fst_heads.specs.declared.pending.Pending.TheVariants as pending
 
@@ -53,7 +52,7 @@ pub stand_land : (nodes : List Node) (blocks b : ℕ) (old new : List Standing) 
     → AllStand (map (lands b) nodes) blocks new
 stand_land nodes blocks b old new inside S within outside = elim (cases_lt b blocks) [
   | inl lt ↦
-      subst (AllStand (map (lands b) nodes) blocks) (sym (within none_yet lt)) (stand_landed nodes blocks b old none_yet lt S)
+      subst (AllStand (map (lands b) nodes) blocks) (sym (within without_changes lt)) (stand_landed nodes blocks b old without_changes lt S)
   | inr past ↦ subst (AllStand (map (lands b) nodes) blocks) (sym (outside past)) (stand_landed_outside nodes blocks b old inside past S)
 ]
 

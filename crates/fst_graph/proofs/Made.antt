@@ -5,7 +5,7 @@ use Rattle.std.specs.{Global.Vec, Vec.with_items}
 use Rattle.fst_types.specs.{Dependencies.{DirectlyOn, IsLiveNumber}, Facts.{IsOnDiskWithAll, SparseAreLawful}, Gates.IsOpenNumber, Gating.gains, Lists.Lists, Making.fresh, Order.depend_order}
 use Rattle.fst_types.specs.{Patches.{Patch, IsOn, OpenGate}, Refusals.NoneHolds}
 use Rattle.fst_heads.specs.{Covers.{Covering, IsPut as IsCovered}, Heads.{patches_of, IsRising}, Keeps.IsInside, Lists.{entry_of, HasRoomInList}, Nodes.{node_of, nodes_of, at_number, gains_names, linked_to, pending_in, AreSettled}}
-use Rattle.fst_heads.specs.{Pendings.{is_pending, sums_of}, Standings.{entered, is_held_on, is_ready_on}, Tests.is_hard_kind, declared.{head.Head.Head, heads.Heads.Heads}}
+use Rattle.fst_heads.specs.{Pendings.{is_pending, sums_of}, Standings.{entered, is_held_on, is_ready_on, without_changes}, Tests.is_hard_kind, declared.{head.Head.Head, heads.Heads.Heads}}
 use Rattle.fst_heads.specs.{declared.lists.Listed.Listed, declared.pending.{Pending.Pending, Sums.Sums}, declared.standing.Standing.Standing}
 use Rattle.fst_levels.specs.{Ancestors.{GoesUnder}, Leveling.{IsLeveled, Leveling, level_of, no_ancestry, floor_of, top_level}, Lifting.{IsRise, MayLift}, Needing.{IsNoted, IsPut, Needing}, Sights.Sees, Walks.{Trail, numbers_met}, declared.levels.{Ancestry.Ancestry, Rise.Rise}, declared.sight.Sight.Sight}
 use Rattle.fst_walks.specs.declared.ends.Ends.{Ends}
@@ -13,7 +13,7 @@ use Rattle.fst_graph.specs.declared.columns.Columns.{Columns}
 use Rattle.fst_graph.specs.declared.sparse.Sparse.TheInside.{Inside}
 use Rattle.fst_graph.specs.{Fresh.{HasOneMore, HasPlaces, IsAdded, IsRoomier, MayAdd}, Ready.change_of, Sound.AreSound, declared.prepared.Prepared.Prepared as Stored}
 use Rattle.fst_heads.proofs.{Added.{new_node, with_node, with_names}, AtNumber.patches_in_nodes, Beside.{beside_made, beside_depends, one_at_most, one_live}, Covering.{covered_gained, covered_push}, Making.keeps_added, Stands.stand_made}
-use Rattle.fst_levels.proofs.{Linked.{patches_made, patches_named}, Releveled.gained_is_leveled, Resting.none_yet, Seen.{seen, lawful_nodes, tallies_wider}, Shelves.shelved}
+use Rattle.fst_levels.proofs.{Linked.{patches_made, patches_named}, Releveled.gained_is_leveled, Seen.{seen, lawful_nodes, tallies_wider}, Shelves.shelved}
 use Rattle.fst_graph.proofs.{Borne.{few_counted, lawful_with, open_nodes}, Kept.{covered_made, keeps_depends, keeps_walked}, Listed.listed_made, NeedsNow.{given_more, needing_change, needing_gained, needing_put}}
 use Rattle.fst_graph.proofs.{PutNow.IsPutDown, Ranks.{along_grown, leveled_change, leveled_put}, Sound.{as_many_lists, as_many_marks, as_many_places, over_down, sees_all, walked_sound}, Tallied.{tallies_depends, tallies_made}}
 use Rattle.fst_heads.specs.declared.pending.Pending.TheVariants as pending
@@ -219,7 +219,7 @@ module _ {s : Inside} (S : AreSound s) where
         record {
           keeps = rw (patches, P.marks.0) (keeps_walked (omega (arith, as_long, length_push walk.marks false, length_push s.columns.ends.up.walk.marks false)) D.keeps);
           beside = rw (patches, P.crossed.0) (beside_made old s.blocks s.live 1 (with_items s.columns.ends.up.crossed places).items made refl (omega (arith, D.few, S.beside.counted)) W.beside);
-          tallies = rw (nodes, listed, enters none_yet, pends) (tallies_wider _ (s.numbers + 1) s.blocks _ _ _ _ _ _ (D.tallies none_yet) P.waiting P.wide);
+          tallies = rw (nodes, listed, enters without_changes, pends) (tallies_wider _ (s.numbers + 1) s.blocks _ _ _ _ _ _ (D.tallies without_changes) P.waiting P.wide);
           covered = rw (patches, covers_are) (covered_made s.numbers p.told.grade D.ready.depends S.covered D.ready.inside cover_is covered);
           along = along_grown {old = walked walk places} P.marks P.crossed W.along;
           leveled = rw patches (leveled_change p rise (numbers_met s.columns.heads.list.items walk) S.keeps.lawful.one_place_each D.given (risen walk same named R) (rw (← at, ← S.leveled.long) leveled) below lifted still (rw (← there, ← after) under) P.ranks P.floors);

@@ -5,11 +5,10 @@ use Rattle.std.proofs.lemmas.{List.Elements.filter_agree, List.Folds.{Any-from_l
 use Rattle.fst_types.specs.{Closure.IsAcyclic, Dependencies.DirectlyOn, Facts.{SparseAreLawful, HardNeverHold}, Looks.IsPick, Patches.{Patch, IsRising, IsHard}}
 use Rattle.fst_types.specs.{Tests.{is_change_at, is_live}, Writable.{IsInMemoryOn, InWritableSet, HasReady, IsWritable}, declared.number.BlockNo.BlockNo}
 use Rattle.fst_heads.specs.{Keeps.IsInside, Nodes.{Node, patches_in, pending_in, AreSettled, AreCounted, is_live_in}, Pendings.is_pending}
-use Rattle.fst_heads.specs.{Standings.{AllStand, AreMarked, may_be_written, standing_of, is_ready_on, is_held_on, is_flying_on}, declared.standing.Standing.Standing}
+use Rattle.fst_heads.specs.{Standings.{AllStand, AreMarked, may_be_written, standing_of, is_ready_on, is_held_on, is_flying_on, without_changes}, declared.standing.Standing.Standing}
 use Rattle.fst_graph.specs.Known.{IsStuckByGates}
 use Rattle.fst_types.proofs.{Landing.{change_at, at_change}, Stuck.never_stuck_lem, Writes.same_test}
 use Rattle.fst_heads.proofs.{Forgetting.live_place_of, PendingIn.{found, told_of}, Placed.{patch_in, node_of_patch}, Sums.sums_count}
-use Rattle.fst_levels.proofs.Resting.{none_yet}
 use Rattle.fst_levels.proofs.Ready.{ready_in, held_in, node_ready, ready_or_held}
 use Rattle.fst_levels.proofs.Numbered.{none_counted, counted_none, counted_some}
 use Rattle.fst_types.specs.declared.place.Place.TheVariants as place
@@ -116,15 +115,15 @@ pub picked_none : (patches : List Patch) (blocks : ℕ) (standings : List Standi
 picked_none patches blocks standings inside M none b w =
     let m = w.some.1.in_memory in
     let lt = inside w.some.0 b m.head m.change in
-    false≢true (sym (none b none_yet lt) ∙ (M b none_yet lt).1 w)
+    false≢true (sym (none b without_changes lt) ∙ (M b without_changes lt).1 w)
 
 pub picked_some : (patches : List Patch) (blocks b : ℕ) (standings : List Standing) → AreMarked patches blocks standings → b < blocks
     → ((d : Standing) → may_be_written (get_or standings b d) ≡ true) → ((c : ℕ) (d : Standing) → c < b → may_be_written (get_or standings c d) ≡ false) → IsPick patches (Some b)
 picked_some patches blocks b standings M lt mark below =
     record {
-      writable = (M b none_yet lt).0 (mark none_yet);
+      writable = (M b without_changes lt).0 (mark without_changes);
       least = λ c w. elim (cases_lt c b) [
-        | inl less ↦ absurd (false≢true (sym (below c none_yet less) ∙ (M c none_yet (omega (arith, less, lt))).1 w))
+        | inl less ↦ absurd (false≢true (sym (below c without_changes less) ∙ (M c without_changes (omega (arith, less, lt))).1 w))
         | inr le ↦ le
       ];
     }

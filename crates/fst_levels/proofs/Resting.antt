@@ -5,7 +5,7 @@ use Rattle.fst_types.specs.{Patches.Patch, Writable.{IsInMemoryOn, IsWritableSet
 use Rattle.fst_types.specs.declared.number.PatchNo.{PatchNo}
 use Rattle.fst_heads.specs.{Heads.patches_of, Keeps.{IsInside, Keeps, Tallies}}
 use Rattle.fst_heads.specs.{Lists.{Entry, entries_of, entries_on, AreListed}, Names.numbers_of, Nodes.{Node, nodes_of, patches_in}, declared.head.Head.Head}
-use Rattle.fst_heads.specs.{declared.lists.Listed.Listed, declared.standing.Standing.Standing, Standings.{held_on, ready_on}, Stretches.nowhere}
+use Rattle.fst_heads.specs.{declared.lists.Listed.Listed, declared.standing.Standing.Standing, Standings.{held_on, ready_on}}
 use Rattle.fst_heads.proofs.AtNumber.{patches_in_nodes}
 use Rattle.fst_levels.proofs.{Ready.{ready_exact, ready_some, held_none, held_first}, Seen.lawful_nodes, Shelves.shelved}
 use Rattle.fst_types.specs.declared.fault.Fault.TheVariants as fault
@@ -21,9 +21,6 @@ listed_at heads blocks b lists l A lt there =
 -- how many lists there are
 pub shelves : (nodes : List Node) (blocks : ℕ) (lists slice : List (Vec Listed Global)) → AreListed (patches_in nodes) blocks (shelved lists) → slice ≡ lists → length slice ≡ blocks
 shelves nodes blocks lists slice A e = ap length e ∙ (sym (length-map lists (λ v. entries_of v.items)) ∙ A.long)
-
-abbrev pub none_yet : Standing
-none_yet = record { ready = 0; held = 0; flying = 0; held_from = 0; ready_in = nowhere; flying_in = nowhere }
 
 module _ (heads : List Head) (numbers blocks : ℕ) (marks : List _) (lists : List (List Entry)) (standings : List Standing) (queue : List ℕ) (cap b : ℕ)
     (K : Keeps (patches_of heads) numbers blocks marks) (T : Tallies (nodes_of heads) numbers blocks lists standings queue cap) where

@@ -3,7 +3,7 @@
 //! needs. Gates and empty patches only join others, often by a tree of them: the one that was found last is gone through first,
 //! so that the changes at the end of such a tree are found however wide it is.
 
-ghost use Rattle.std.specs.Prelude.{◌≡◌, ◌⊎◌, ℕ, Contains, IfSome};
+ghost use Rattle.std.specs.Prelude.{◌≡◌, ◌⊎◌, ◌<◌, ℕ, Contains, IfSome, IsTrue, vec_capacity, vec_len};
 ghost use Rattle.fst_types.specs.Dependencies.{DirectlyOn};
 ghost use Rattle.fst_heads.specs.Heads.{patches_of};
 ghost use Rattle.fst_levels.specs.Needing.{IsAtOrUnder, IsGathered};
@@ -39,11 +39,18 @@ fn leads_on(head: &Head) -> bool {
     }
 }
 
+// Whether there is a place for one more.
+fn has_place(list: &Vec<u32>) -> bool
+    ensures { IsTrue result → vec_len list.now < vec_capacity list.now }
+{
+    list.len() < list.capacity()
+}
+
 // The number joins, if it is not there and there is a place.
 fn join(list: &mut Vec<u32>, number: u32)
     ensures { (n : ℕ) → Contains list.new.items n → Contains list.old.items n ⊎ (n ≡ number) }
 {
-    if list.len() < list.capacity() && !list.contains(&number) {
+    if has_place(list) && !list.contains(&number) {
         list.push_reserved(number);
     }
 }
@@ -106,11 +113,6 @@ impl Below {
         })
     }
 
-    // Whether there is no place for a change more.
-    fn is_full(&self) -> bool {
-        self.changes.len() >= self.changes.capacity()
-    }
-
     // From which patch to go on, where so many of the changes are done: a gate or empty patch first, the one found last.
     fn next(&mut self, done: &mut usize) -> Option<u32>
         ensures next { IfSome result (IsGathered self.old) }
@@ -135,7 +137,7 @@ pub fn gather_below(heads: &Heads, below: &mut Below, row: &[u32])
     }
     let mut done = 0;
     for _ in 0..THROUGH {
-        if below.is_full() {
+        if !has_place(&below.changes) {
             return;
         }
         let Some(number) = below.next(&mut done) else {

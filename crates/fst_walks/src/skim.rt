@@ -32,7 +32,7 @@ const MORE_LOOKS: usize = 2048;
 /// Whether the patch that was met there in turn is a change of a block that needs many.
 pub(crate) fn needs_many(sight: &Sight<'_>, walk: &Walk, at: usize) -> bool
     requires sees { Sees sight.now }
-    requires visited { Visited sight.now.heads.now.list.items walk.now }
+    requires long { length walk.now.marks ≡ length sight.now.heads.now.list.items }
     requires at { at < length walk.now.met }
 {
     match sight.heads.list[walk.index_at(at)].kind {
@@ -44,13 +44,11 @@ pub(crate) fn needs_many(sight: &Sight<'_>, walk: &Walk, at: usize) -> bool
 /// Whether the walk has met a change of a block that needs many.
 pub(crate) fn meets_many(sight: &Sight<'_>, walk: &Walk) -> bool
     requires sees { Sees sight.now }
-    requires walk { length walk.now.marks ≡ length sight.now.heads.now.list.items }
+    requires long { length walk.now.marks ≡ length sight.now.heads.now.list.items }
 {
     for at in 0..walk.len() {
-        if let Kind::Change(_, block, _) = sight.heads.list[walk.index_at(at)].kind {
-            if sight.needs.count(u32::from(block)) > LONG {
-                return true;
-            }
+        if needs_many(sight, walk, at) {
+            return true;
         }
     }
     false

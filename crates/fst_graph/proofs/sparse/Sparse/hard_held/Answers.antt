@@ -1,7 +1,7 @@
 use Rattle.std.proofs.Common.{◌≡◌, ◌<◌, ◌∙◌, get_or, refl, Some, None, ap, arith, subst, sym}
-use Rattle.fst_heads.specs.{Heads.patches_of, Nodes.nodes_of, Standings.NoneHeldBelow, declared.standing.Standing.Standing}
+use Rattle.fst_heads.specs.{Heads.patches_of, Nodes.nodes_of, Standings.{NoneHeldBelow, without_changes}, declared.standing.Standing.Standing}
 use Rattle.fst_heads.proofs.{Counts.held_counted, Indices.any_default}
-use Rattle.fst_levels.proofs.{Resting.{none_there, none_yet, none_held, least_held}, Seen.lawful_nodes}
+use Rattle.fst_levels.proofs.{Resting.{none_there, none_held, least_held}, Seen.lawful_nodes}
 use Rattle.fst_graph.proofs.{Flagged.unspared, RememberedLooks.{held as was_held, least_held as least_known}, Tallied.tallies_found}
 use Rattle.fst_graph.proofs.Sound.{as_many_standings, its_list, many_lists, view_gone}
 use Rattle.fst_graph.proofs.sparse.Sparse.hard_held.Goals as goal
@@ -66,13 +66,13 @@ invariant_of-self-2 c =
     let S = c.self.invariant.0 in
     let b = c.args.block.0 in
     let no = c.in-Some-first_held.no.0 in
-    let own = get_or s.standings b none_yet in
+    let own = get_or s.standings b without_changes in
     let lt = within (goal.at.invariant_of-self-2 c).After-deref-2 in
     rw c.let_go.ensures (
       record {
         keeps = S.keeps;
         beside = S.beside;
-        tallies = rw (c.note_held.ensures none_yet) (tallies_found (nodes_of s.columns.heads.list.items) s.numbers s.blocks b no _ s.standings _ _ own _ (lawful_nodes s.columns.heads.list.items s.numbers S.keeps.lawful) S.tallies lt (any_default s.standings b none_yet own (omega (arith, lt, as_many_standings S))) refl c.in-Some-first_held.ensures.least);
+        tallies = rw (c.note_held.ensures without_changes) (tallies_found (nodes_of s.columns.heads.list.items) s.numbers s.blocks b no _ s.standings _ _ own _ (lawful_nodes s.columns.heads.list.items s.numbers S.keeps.lawful) S.tallies lt (any_default s.standings b without_changes own (omega (arith, lt, as_many_standings S))) refl c.in-Some-first_held.ensures.least);
         covered = S.covered;
         along = S.along;
         leveled = S.leveled;

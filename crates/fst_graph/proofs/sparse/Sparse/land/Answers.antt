@@ -1,10 +1,10 @@
 use Rattle.std.proofs.{Common.{vec_capacity, [], rules, ◌≡◌, ◌<◌, ◌∙◌, inl, inr, count_by, get_or, map, sym, ap, subst, length, arith, refl}, lemmas.Bool.cases_lt, lemmas.List.length-map}
 use Rattle.fst_types.specs.{Cascade.IsCascadeOf, Writing.landed}
-use Rattle.fst_heads.specs.{Heads.patches_of, Keeps.{IsInside, Tallies}, Lists.{entries_of, AreListed}, Nodes.{is_forgotten_in, node_of, nodes_of, patches_in, AreSettled}, Spreading.{IsSpreadOf, lands}, Standings.{AllStand, is_flying_on}, Stretches.LieIn, declared.standing.Standing.Standing}
+use Rattle.fst_heads.specs.{Heads.patches_of, Keeps.{IsInside, Tallies}, Lists.{entries_of, AreListed}, Nodes.{is_forgotten_in, node_of, nodes_of, patches_in, AreSettled}, Spreading.{IsSpreadOf, lands}, Standings.{AllStand, is_flying_on, without_changes}, Stretches.LieIn, declared.standing.Standing.Standing}
 use Rattle.fst_types.proofs.Landing.{alike_landed}
 use Rattle.fst_heads.proofs.{AtNumber.patches_in_nodes, Beside.{beside_landed, landed_few}, Carried.{linked_landed, distinct_landed}}
 use Rattle.fst_heads.proofs.{Counts.flying_counted, Landed.landed_map, Listing.{nothing_flies, is_off}, Starting.{starts_landed, patches_landed}}
-use Rattle.fst_levels.proofs.{Resting.none_yet, Seen.{seen, lawful_nodes}, Shelves.shelved}
+use Rattle.fst_levels.proofs.{Seen.{seen, lawful_nodes}, Shelves.shelved}
 use Rattle.fst_graph.specs.Sound.{remembered_of}
 use Rattle.fst_graph.proofs.{Borne.{inside_nodes, none_outside, stand_land}, Flagged.{flags_map, flags_of, flags_spread, remembered_as, remembered_still}, Kept.{covered_moved, keeps_landed}, NeedsNow.needing_landed}
 use Rattle.fst_graph.proofs.{Ranks.leveled_moved, RememberedRows.{landed_number, landed_remembered}, Sound.{as_many_lists, as_many_standings, view_gone}}
@@ -19,8 +19,8 @@ land_block-requires c =
     let S = c.self.invariant.0 in
     let T = S.tallies in
     let own = c.at in
-    let told : b < s.blocks → own.result ≡ get_or s.standings b none_yet = λ inside.
-    own.ensures.inside none_yet (omega (arith, inside, T.standing.long)) in
+    let told : b < s.blocks → own.result ≡ get_or s.standings b without_changes = λ inside.
+    own.ensures.inside without_changes (omega (arith, inside, T.standing.long)) in
     record {
       inside = subst (IsInside (patches_of heads)) (sym (as_many_lists S)) S.keeps.inside;
       listed =
@@ -29,14 +29,14 @@ land_block-requires c =
           subst (λ ps. AreListed ps (length lists) (shelved lists)) (patches_in_nodes heads) (subst (λ n. AreListed (patches_in (nodes_of heads)) n (shelved lists)) long T.listed);
       flying = elim (cases_lt b s.blocks) [
         | inl inside ↦
-            let many : own.result.flying ≡ count_by (is_flying_on b) (nodes_of heads) = ap (λ (t : Standing). t.flying) (told inside ∙ T.standing.each b none_yet inside) in
+            let many : own.result.flying ≡ count_by (is_flying_on b) (nodes_of heads) = ap (λ (t : Standing). t.flying) (told inside ∙ T.standing.each b without_changes inside) in
             omega (arith, flying_counted b heads, many)
         | inr past ↦
             let none = nothing_flies b heads (λ p h. is_off b p.kind (λ on. let lt = S.keeps.inside p b h on in omega (arith, lt, past))) in
             ap length none ∙ sym (ap (λ (t : Standing). t.flying) (own.ensures.outside (omega (arith, past, T.standing.long))))
       ];
       lie = elim (cases_lt b s.blocks) [
-        | inl inside ↦ subst (λ (t : Standing). LieIn (is_flying_on b) (nodes_of heads) t.flying_in) (sym (told inside)) (T.standing.lie b none_yet inside).flying
+        | inl inside ↦ subst (λ (t : Standing). LieIn (is_flying_on b) (nodes_of heads) t.flying_in) (sym (told inside)) (T.standing.lie b without_changes inside).flying
         | inr past ↦ none_outside (nodes_of heads) s.blocks b own.result.flying_in (inside_nodes heads s.blocks S.keeps.inside) past
       ];
       idle = T.idle;

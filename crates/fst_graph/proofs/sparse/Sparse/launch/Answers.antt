@@ -1,11 +1,11 @@
 use Rattle.std.proofs.Common.{◌≡◌, ◌<◌, ◌∙◌, get_or, map, sym, ap, subst, refl, arith, rules}
 use Rattle.std.proofs.lemmas.List.{length-map}
 use Rattle.fst_types.specs.{Writable.{IsWritable, IsWritableSet}, Writing.launched}
-use Rattle.fst_heads.specs.{Heads.patches_of, Keeps.Beside, Names.numbers_of, Nodes.{is_forgotten_in, node_of, nodes_of, patches_in}, Spreading.{IsRisenOf, launches}, Standings.ready_on}
+use Rattle.fst_heads.specs.{Heads.patches_of, Keeps.Beside, Names.numbers_of, Nodes.{is_forgotten_in, node_of, nodes_of, patches_in}, Spreading.{IsRisenOf, launches}, Standings.{ready_on, without_changes}}
 use Rattle.fst_graph.specs.Known.{Known}
 use Rattle.fst_types.proofs.Issuing.{alike_launched}
 use Rattle.fst_heads.proofs.{AtNumber.patches_in_nodes, Carried.risen_spread, Indices.any_default}
-use Rattle.fst_levels.proofs.{Resting.none_yet, Seen.lawful_nodes}
+use Rattle.fst_levels.proofs.Seen.{lawful_nodes}
 use Rattle.fst_graph.proofs.{Flagged.{flags_map, flags_of, flags_spread, remembered_as, remembered_still}, Remembered.remembered_map, RememberedRows.launched_number, Risen.{beside_risen, landed_risen}}
 use Rattle.fst_graph.proofs.{Borne.inside_nodes, Kept.{covered_moved, keeps_launched}, Launches.{some_chosen, first_named, none_first, block_found, block_some, chosen_ready, tallies_chosen}}
 use Rattle.fst_graph.proofs.{Marking.writable_rests, NeedsNow.needing_launched, Ranks.leveled_moved, Sound.{as_many_standings, view_gone}, sparse.Sparse.launch.Goals.{After-block_of, After-launch-arg-2-1, After-launch}}
@@ -70,7 +70,7 @@ launch-requires c =
 inside : (c : After-launch-arg-2-1) → c.in-Some-block_of.block < c.self.inside.blocks
 inside c =
     let s = c.self.inside in
-    (writable_rests (nodes_of s.columns.heads.list.items) s.blocks c.in-Some-block_of.block s.standings none_yet (inside_nodes s.columns.heads.list.items s.blocks c.self.invariant.0.keeps.inside) c.self.invariant.0.tallies.standing (nodes_writable c)).0
+    (writable_rests (nodes_of s.columns.heads.list.items) s.blocks c.in-Some-block_of.block s.standings without_changes (inside_nodes s.columns.heads.list.items s.blocks c.self.invariant.0.keeps.inside) c.self.invariant.0.tallies.standing (nodes_writable c)).0
 
 pub launch-requires-2 : goal.launch-requires-2
 launch-requires-2 c = omega (arith, inside (goal.at.launch-requires-2 c).After-launch-arg-2-1, as_many_standings c.self.invariant.0)
@@ -110,9 +110,9 @@ invariant_of-self-2 c =
         beside = subst (λ ps. Beside ps blocks c.self.inside.live c.self.inside.columns.ends.up.crossed.items) (patches_in_nodes later)
             (beside_risen (nodes_of heads) (nodes_of later) n blocks b H.one_place_each T.settled settled risen c.self.inside.live c.self.inside.columns.ends.up.crossed.items
             (subst (λ ps. Beside ps blocks c.self.inside.live c.self.inside.columns.ends.up.crossed.items) (sym (patches_in_nodes heads)) c.self.invariant.0.beside));
-        tallies = rw (c.launch.ensures.empty, c.launch.ensures.capacity, c.launch-2.ensures none_yet)
-            (tallies_chosen (nodes_of heads) (nodes_of later) n blocks b _ c.self.inside.standings _ _ chosen (get_or c.self.inside.standings b none_yet) _ H
-            (lawful_nodes later n (rw new kept.lawful)) (inside_nodes heads blocks K.inside) T (nodes_writable at) (ready at) (any_default c.self.inside.standings b none_yet _ (omega (arith, inside at, as_many_standings c.self.invariant.0))) refl
+        tallies = rw (c.launch.ensures.empty, c.launch.ensures.capacity, c.launch-2.ensures without_changes)
+            (tallies_chosen (nodes_of heads) (nodes_of later) n blocks b _ c.self.inside.standings _ _ chosen (get_or c.self.inside.standings b without_changes) _ H
+            (lawful_nodes later n (rw new kept.lawful)) (inside_nodes heads blocks K.inside) T (nodes_writable at) (ready at) (any_default c.self.inside.standings b without_changes _ (omega (arith, inside at, as_many_standings c.self.invariant.0))) refl
             c.launch.ensures.spread settled c.launch.ensures.ready c.launch.ensures.held);
         covered = rw new (covered_moved (alike_launched (patches_of heads) n b chosen K.lawful W C) kept c.self.invariant.0.covered);
         along = c.self.invariant.0.along;
