@@ -233,8 +233,13 @@ def joined_by_wide_trees():
 
 
 def joined_for_few():
-    """A thousand times thirty-two changes, which such a tree joins, and four after that: no step's script, but the slowest here."""
+    """A thousand times thirty-two changes, which such a tree joins, and four after that."""
     return joined_so(1024, 32, 1000, 4)
+
+
+def joined_over_many():
+    """The same over 4,096 blocks: no step's script, but among the slowest here."""
+    return joined_so(4096, 32, 1000, 4)
 
 
 def fan_of_own():
@@ -277,7 +282,8 @@ def fan_in_flight():
 SHAPES = [
     ring_back, gates_in_a_chain, two_families, three_blocks, groups_in_a_chain, chains_of_groups, deep_below, tower,
     behind_a_gate, gate_each, deep_over, many_needs, block_of_soft_needs, block_beyond_soft_needs,
-    superblock_waits, joined_by_trees, joined_by_wide_trees, joined_for_few, fan_of_own, fan_of_others, fan_in_flight,
+    superblock_waits, joined_by_trees, joined_by_wide_trees, joined_for_few, joined_over_many, fan_of_own, fan_of_others,
+    fan_in_flight,
 ]
 
 
