@@ -1,9 +1,8 @@
 //! What no clause says of the demo: what the guides tell, records, a transaction refused half way, and what a file has after
 //! a transfer. The helpers' contracts say nothing, and nothing here answers with a `Result`: after each `?` a test's proof
-//! has one more path, on which all that the test holds is dropped. Of what a test holds for long, contracts see nothing,
-//! and it is let go of in one place.
+//! has one more path, on which all that the test holds is dropped.
 
-use crate::same::same_text;
+use crate::same::{same, same_text};
 use crate::slots::zero_slots;
 use crate::store::Store;
 use fst_device::MemorySlot;
@@ -14,7 +13,6 @@ use journal_parts::guide::guide;
 use journal_parts::{Accounts, Balance, FileSlot, Record, StoreFault, slots};
 use std::alloc::Global;
 use std::fs::{self, File};
-use std::marker::Model;
 use std::process::Abort;
 use std::rt::Files;
 
@@ -66,7 +64,7 @@ fn guides_tell_what_the_page_says(rt: HostRuntime) {
 
 // What these bytes of a journal block say.
 fn reads(rt: &impl Abort, bytes: &[u8], expected: Option<Record>) {
-    assert_eq!(rt; Record::from_bytes(bytes), expected);
+    same(rt, &Record::from_bytes(bytes), &expected);
 }
 
 #[test]
@@ -107,7 +105,7 @@ fn has_no_room(rt: &impl Abort, store: &mut Store<MemorySlot>, commit: PatchNo) 
     let refused = store
         .cache
         .patch(&mut store.share, BlockNo(0), 0, b"h", &[commit]);
-    assert_eq!(rt; refused, Err(Fault::Full(What::Resident)));
+    same(rt, &refused.err(), &Some(Fault::Full(What::Resident)));
 }
 
 // Where something is written there is. The answer is its change.
@@ -125,7 +123,7 @@ fn finds_room(rt: &impl Abort, store: &mut Store<MemorySlot>, commit: PatchNo) -
 
 // Where a patch is.
 fn is_at(rt: &impl Abort, store: &Store<MemorySlot>, patch: PatchNo, expected: Place) {
-    assert_eq!(rt; store.cache.place(patch), Some(expected));
+    same(rt, &store.cache.place(patch), &Some(expected));
 }
 
 fn goes_on(rt: &impl Abort, store: &mut Store<MemorySlot>) {
@@ -148,67 +146,34 @@ fn a_transaction_refused_half_way_goes_on(rt: HostRuntime) {
 }
 
 // The accounts of a file.
-#[derive(Drop)]
-struct Kept {
-    accounts: Accounts<FileSlot>,
+fn opened<R: Abort + Files<File = File> + AllocGlobal>(rt: &R, name: &str) -> Accounts<FileSlot> {
+    let slots = slots(rt, name).ok().expect(rt, "the file is a store");
+    Accounts::open(rt.alloc(), slots)
+        .ok()
+        .expect(rt, "the accounts open")
 }
 
-impl Model for Kept {
-    ghost Value = { Unit {0} };
-
-    ghost view = { λ _. tt };
+// What the first two accounts have.
+fn have(rt: &impl Abort, accounts: &mut Accounts<FileSlot>, expected: (u32, u32)) {
+    let first = accounts.balance(0).ok();
+    let second = accounts.balance(1).ok();
+    same(rt, &(first, second), &(Some(expected.0), Some(expected.1)));
 }
 
-impl Kept {
-    fn new(rt: &impl Abort, opened: Option<Accounts<FileSlot>>) -> Kept {
-        let accounts = opened.expect(rt, "the accounts open");
-        Kept { accounts }
-    }
-
-    fn open<R: Abort + Files<File = File> + AllocGlobal>(rt: &R, name: &str) -> Kept {
-        let slots = slots(rt, name).ok().expect(rt, "the file is a store");
-        Kept::new(rt, Accounts::open(rt.alloc(), slots).ok())
-    }
-
-    // Lets go of them. What that takes is proved here, and not in each test.
-    fn end(self) {}
-
-    // What an account has.
-    fn has(&mut self, rt: &impl Abort, account: u16, expected: u32) {
-        let balance = self.accounts.balance(account).ok();
-        assert_eq!(rt; balance, Some(expected));
-    }
-
-    // A transfer from the first account to the second.
-    fn transfer(&mut self, rt: &impl Abort, amount: u32) -> PatchNo {
-        self.accounts
-            .transfer(0, 1, amount)
-            .ok()
-            .expect(rt, "the transfer is made")
-    }
-
-    // What stands for a transfer is on disk.
-    fn sync(&mut self, rt: &impl Abort, done: PatchNo) {
-        assert!(rt; self.accounts.sync(done).is_ok());
-    }
+// A transfer from the first account to the second.
+fn transfer(rt: &impl Abort, accounts: &mut Accounts<FileSlot>, amount: u32) -> PatchNo {
+    accounts
+        .transfer(0, 1, amount)
+        .ok()
+        .expect(rt, "the transfer is made")
 }
 
 // Two transfers, of which the first is synced.
-fn first_opening<R: Abort + Files<File = File> + AllocGlobal>(rt: &R, name: &str) {
-    let mut kept = Kept::open(rt, name);
-    let done = kept.transfer(rt, 30);
-    kept.sync(rt, done);
-    kept.transfer(rt, 70);
-    kept.has(rt, 0, 0);
-    kept.has(rt, 1, 200);
-    kept.end();
-}
-
-fn second_opening<R: Abort + Files<File = File> + AllocGlobal>(rt: &R, name: &str) {
-    let mut kept = Kept::open(rt, name);
-    kept.has(rt, 0, 70);
-    kept.has(rt, 1, 130);
-    kept.end();
+fn first_opening(rt: &impl Abort, accounts: &mut Accounts<FileSlot>) {
+    let done = transfer(rt, accounts, 30);
+    assert!(rt; accounts.sync(done).is_ok());
+    transfer(rt, accounts, 70);
+    have(rt, accounts, (0, 200));
 }
 
 // Removes the file, if it is there.
@@ -220,7 +185,11 @@ fn remove<R: Files<File = File>>(rt: &R, name: &str) -> bool {
 fn a_file_has_what_was_synced(rt: HostRuntime) {
     let name = "accounts-of-a-test";
     remove(&rt, name);
-    first_opening(&rt, name);
-    second_opening(&rt, name);
+    let mut accounts = opened(&rt, name);
+    first_opening(&rt, &mut accounts);
+    drop(accounts);
+    let mut accounts = opened(&rt, name);
+    have(&rt, &mut accounts, (70, 130));
+    drop(accounts);
     assert!(rt; remove(&rt, name));
 }

@@ -13,6 +13,8 @@
 #[cfg(test)]
 mod demo;
 #[cfg(test)]
+mod list;
+#[cfg(test)]
 mod program;
 #[cfg(test)]
 mod same;

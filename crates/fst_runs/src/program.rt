@@ -2,6 +2,8 @@
 
 mod whole;
 
+use crate::list::push;
+use crate::same::same;
 use fst_program::arguments::{Run, args};
 use std::alloc::Global;
 use std::process::Abort;
@@ -10,7 +12,7 @@ use std::process::Abort;
 fn words_of<'a>(rt: &impl Abort, alloc: Global, line: &'a str) -> Vec<&'a str> {
     let mut words = Vec::new(alloc);
     for word in line.split_whitespace() {
-        words.push(word).expect(rt, "there is memory");
+        push(rt, &mut words, word);
     }
     words
 }
@@ -33,7 +35,7 @@ fn asks_to_play(rt: &impl Abort, alloc: Global, line: &str, expected: (u32, u32,
     else {
         rt.panic("the words are taken")
     };
-    assert_eq!(rt; (blocks, size, resident), expected);
+    same(rt, &(blocks, size, resident), &expected);
 }
 
 // The words ask for a crew of so many file threads, workers and rounds.
@@ -48,7 +50,7 @@ fn asks_for_crew(rt: &impl Abort, alloc: Global, line: &str, expected: (u32, u32
     else {
         rt.panic("the words are taken")
     };
-    assert_eq!(rt; (files, workers, rounds), expected);
+    same(rt, &(files, workers, rounds), &expected);
 }
 
 // Each of these lines is refused.

@@ -13,6 +13,8 @@ mod rows;
 mod streams;
 mod told;
 
+use crate::list::push;
+use crate::same::same;
 use fst_player::play::{PlayFault, play};
 use fst_types::Shape;
 use std::alloc::{AllocError, Global};
@@ -65,7 +67,7 @@ fn is_unwritten(rt: &impl Abort, ended: Option<PlayFault>) {
 
 // The replies are these.
 fn same_replies(rt: &impl Abort, replies: &[u8], expected: &[u8]) {
-    assert_eq!(rt; replies, expected);
+    same(rt, &replies, &expected);
 }
 
 // What is replied to a script over blocks of this shape.
@@ -131,7 +133,7 @@ fn put_rows(rt: &impl Abort, script: &mut Vec<u8>, replies: &mut Vec<u8>, rows: 
 fn rows_of<'a>(rt: &impl Abort, alloc: Global, text: &'a str) -> Vec<&'a str> {
     let mut rows = Vec::new(alloc);
     for row in text.lines() {
-        rows.push(row).expect(rt, "there is memory");
+        push(rt, &mut rows, row);
     }
     rows
 }
@@ -146,6 +148,6 @@ fn plays_each(rt: &impl Abort, alloc: Global, scripts: &[Script]) {
         let mut replies = Vec::new(alloc);
         put_rows(rt, &mut script, &mut replies, rows);
         let told = replies_to(rt, alloc, *resident, &script);
-        assert_eq!(rt; told.as_slice(), replies.as_slice(), "{name}");
+        same(rt, &(*name, told), &(*name, replies));
     }
 }

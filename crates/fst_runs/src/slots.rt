@@ -1,7 +1,8 @@
 //! Slots in memory. The contracts here say nothing, so that a test carries no facts from call to call, and nothing here or
 //! in the tests answers with a `Result`: after each `?` a proof has one more path, on which all that is held is dropped.
 
-use fst_device::{BlockSlot, MemorySlot};
+use crate::list::push;
+use fst_device::MemorySlot;
 use fst_types::BlockNo;
 use std::alloc::Global;
 use std::process::Abort;
@@ -12,17 +13,11 @@ pub fn zero_slot(rt: &impl Abort, alloc: Global, block: u32, size: u32) -> Memor
     MemorySlot::new(BlockNo(block), zeros)
 }
 
-/// One more slot.
-pub fn add<S: BlockSlot>(rt: &impl Abort, slots: &mut Vec<S>, slot: S) {
-    let added = slots.push(slot);
-    assert!(rt; added.is_ok(), "there is memory");
-}
-
 /// A slot of so many zeros for each of so many blocks.
 pub fn zero_slots(rt: &impl Abort, alloc: Global, blocks: u32, size: u32) -> Vec<MemorySlot> {
     let mut slots = Vec::new(alloc);
     for block in 0..blocks {
-        add(rt, &mut slots, zero_slot(rt, alloc, block, size));
+        push(rt, &mut slots, zero_slot(rt, alloc, block, size));
     }
     slots
 }

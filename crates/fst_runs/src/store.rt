@@ -1,6 +1,7 @@
 //! A cache over slots in memory, each call of which is compared with the answer that the test names. Contracts see nothing
 //! of it: a test that held a `Cache` would be proved at each call with all that a cache keeps.
 
+use crate::same::same;
 use crate::slots::zero_slots;
 use fst_cache::{Cache, Share, Stat};
 use fst_device::{BlockSlot, Job, MemorySlot, carry};
@@ -54,17 +55,17 @@ impl<S: BlockSlot> Store<S> {
 
     /// What it counts is this.
     pub fn counts(&self, rt: &impl Abort, expected: Stat) {
-        assert_eq!(rt; self.cache.stat(), expected);
+        same(rt, &self.cache.stat(), &expected);
     }
 
     /// It counts so many live patches.
     pub fn has_live(&self, rt: &impl Abort, expected: u32) {
-        assert_eq!(rt; self.cache.stat().live, expected);
+        same(rt, &self.cache.stat().live, &expected);
     }
 
     /// This block waits for a retry.
     pub fn is_stalled(&self, rt: &impl Abort, block: u32) {
-        assert_eq!(rt; self.cache.stalled(), Some(BlockNo(block)));
+        same(rt, &self.cache.stalled(), &Some(BlockNo(block)));
     }
 }
 

@@ -6,6 +6,7 @@ mod limits;
 mod strangers;
 
 use crate::cache::checked::Checked;
+use crate::list::push;
 use crate::same::{same_block, same_bytes, same_count, same_patches, same_ticket};
 use fst_cache::Stat;
 use fst_device::{Arm, Done, Job, MemorySlot, carry};
@@ -28,8 +29,8 @@ fn zero_slot(rt: &impl Abort, alloc: Global, block: u32) -> MemorySlot
 // These two slots.
 fn both(rt: &impl Abort, alloc: Global, first: MemorySlot, second: MemorySlot) -> Vec<MemorySlot> {
     let mut slots = Vec::new(alloc);
-    slots.push(first).expect(rt, "there is memory");
-    slots.push(second).expect(rt, "there is memory");
+    push(rt, &mut slots, first);
+    push(rt, &mut slots, second);
     slots
 }
 
@@ -244,9 +245,7 @@ fn a_clean_block_gives_up_its_place(rt: HostRuntime) {
 // A cache of one block over which so many numbers and tickets are used.
 fn used(rt: &impl Abort, alloc: Global, numbers: u32, tickets: u64) -> Checked {
     let mut slots = Vec::new(alloc);
-    slots
-        .push(zero_slot(rt, alloc, 0))
-        .expect(rt, "there is memory");
+    push(rt, &mut slots, zero_slot(rt, alloc, 0));
     Checked::open_at(rt, alloc, Shape::new(1, 4, 1).ok(), slots, numbers, tickets)
 }
 

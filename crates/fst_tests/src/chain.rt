@@ -4,6 +4,7 @@ mod callers;
 mod memory;
 mod numbers;
 
+use crate::list::push;
 use crate::same::{same_bytes, same_count, same_record};
 use callers::{Kind, Record, add, remove_first, set_second};
 use fst_chain::Chain;
@@ -70,10 +71,10 @@ fn rows_of_odd(rt: &impl Abort, alloc: Global) -> Vec<(Go, Option<u32>)> {
     let mut rows = Vec::new(alloc);
     for i in 0..500u32 {
         let odd = Some(2 * i + 1);
-        rows.push((Go::Next, odd)).expect(rt, "there is memory");
-        rows.push((Go::Remove, odd)).expect(rt, "there is memory");
+        push(rt, &mut rows, (Go::Next, odd));
+        push(rt, &mut rows, (Go::Remove, odd));
     }
-    rows.push((Go::Stay, None)).expect(rt, "there is memory");
+    push(rt, &mut rows, (Go::Stay, None));
     rows
 }
 
@@ -81,7 +82,7 @@ fn rows_of_odd(rt: &impl Abort, alloc: Global) -> Vec<(Go, Option<u32>)> {
 fn evens(rt: &impl Abort, alloc: Global) -> Vec<u32> {
     let mut evens = Vec::new(alloc);
     for i in 0..500u32 {
-        evens.push(2 * i).expect(rt, "there is memory");
+        push(rt, &mut evens, 2 * i);
     }
     evens
 }

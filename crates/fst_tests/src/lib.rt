@@ -24,6 +24,8 @@ mod dice;
 #[cfg(test)]
 mod graph;
 #[cfg(test)]
+mod list;
+#[cfg(test)]
 mod same;
 #[cfg(test)]
 mod types;

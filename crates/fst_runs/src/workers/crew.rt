@@ -2,8 +2,9 @@
 
 mod stopped;
 
-use crate::same::{same_text, starts_with};
-use crate::slots::{add, zero_slots};
+use crate::list::push;
+use crate::same::{same, same_text, starts_with};
+use crate::slots::zero_slots;
 use crate::stopping::{NoRoom, with_room};
 use crate::workers::failing::{Begun, Failing, Habit};
 use fst_crew::plan::Crew;
@@ -74,7 +75,7 @@ fn is_cache_fault(rt: &impl Abort, fault: &Option<CrewFault>, expected: Fault) {
     let Some(CrewFault::Cache(found)) = fault else {
         rt.panic("a fault of the cache or the desk ends it")
     };
-    assert_eq!(rt; *found, expected);
+    same(rt, found, &expected);
 }
 
 // The crew was ended by this fault of the cache or the desk, and printed nothing.
@@ -88,7 +89,7 @@ fn meeting_slots(rt: &impl Abort, alloc: Global, begun: &Begun) -> Vec<Failing> 
     let mut slots = Vec::new(alloc);
     for slot in zero_slots(rt, alloc, 8, 8) {
         let counter = Arc::try_clone(begun).expect(rt, "there is memory");
-        add(rt, &mut slots, Failing::meeting(slot, counter));
+        push(rt, &mut slots, Failing::meeting(slot, counter));
     }
     slots
 }
@@ -98,7 +99,7 @@ fn two_writes_at_once(rt: HostRuntime) {
     let begun = Arc::new(rt.alloc(), AtomicU64::new(0)).expect(&rt, "there is memory");
     let slots = meeting_slots(&rt, rt.alloc(), &begun);
     begins(&rt, &ran(&rt, rt.alloc(), slots, 2, 2, 1), "made 2\n");
-    assert_eq!(rt; begun.load(Ordering::SeqCst), 2);
+    same(&rt, &begun.load(Ordering::SeqCst), &2);
 }
 
 #[test]
@@ -119,7 +120,7 @@ fn failing_slots(rt: &impl Abort, alloc: Global, first: Habit, other: Habit) -> 
     let mut slots = Vec::new(alloc);
     let mut habit = first;
     for slot in zero_slots(rt, alloc, 8, 8) {
-        add(rt, &mut slots, Failing::new(slot, habit));
+        push(rt, &mut slots, Failing::new(slot, habit));
         habit = other;
     }
     slots
@@ -175,7 +176,8 @@ fn writer_takes_nothing(rt: HostRuntime) {
 }
 
 // Whether there can be such a plan.
-fn is_plan(files: u32, workers: u32, rounds: u32) -> bool {
+fn is_plan(plan: (u32, u32, u32)) -> bool {
+    let (files, workers, rounds) = plan;
     Crew::new(files, workers, rounds).is_ok()
 }
 
@@ -194,10 +196,7 @@ const PLANS: [(u32, u32, u32, bool); 8] = [
 #[test]
 fn plans(rt: HostRuntime) {
     for (files, workers, rounds, is_one) in PLANS {
-        assert_eq!(rt;
-            is_plan(files, workers, rounds),
-            is_one,
-            "{files} {workers} {rounds}"
-        );
+        let plan = (files, workers, rounds);
+        same(&rt, &(plan, is_plan(plan)), &(plan, is_one));
     }
 }

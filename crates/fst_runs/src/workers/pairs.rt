@@ -6,6 +6,8 @@ mod closing;
 mod failing;
 mod strange;
 
+use crate::list::push;
+use crate::same::same;
 use crate::store::Store;
 use crate::workers::pairs::checked::Checked;
 use fst_cache::Share;
@@ -63,35 +65,34 @@ pub fn patch_all<S: BlockSlot>(
 pub fn submits<S: BlockSlot, A: Allocator>(
     rt: &impl Abort,
     desk: &mut Desk<S, A>,
-    expected: Option<u64>,
+    expected: Option<Ticket>,
 ) {
     let sent = desk.submit().expect(rt, "no refusal");
-    assert_eq!(rt; sent.map(|ticket| ticket.0), expected);
+    same(rt, &sent, &expected);
 }
 
 // Writes are sent under these tickets, each the next one.
 fn submits_each<S: BlockSlot>(rt: &impl Abort, desk: &mut Desk<S>, first: u64, end: u64) {
     for ticket in first..end {
-        submits(rt, desk, Some(ticket));
+        submits(rt, desk, Some(Ticket(ticket)));
     }
 }
 
 fn steps<S: BlockSlot>(rt: &impl Abort, worker: &mut Worker<S>, expected: Step) {
-    assert_eq!(rt; worker.step(), expected);
+    same(rt, &worker.step(), &expected);
 }
 
 // The desk takes in so many completions, and no stray.
 fn collects<S: BlockSlot>(rt: &impl Abort, desk: &mut Desk<S>, settled: u32) {
     let collected = desk.collect();
-    assert_eq!(rt; collected.settled, settled);
+    same(rt, &collected.settled, &settled);
     assert!(rt; collected.stray.is_none());
 }
 
 // This share, in a list.
 pub fn only(rt: &impl Abort, alloc: Global, share: Share) -> Vec<Share> {
     let mut shares = Vec::new(alloc);
-    let added = shares.push(share);
-    assert!(rt; added.is_ok(), "there is memory");
+    push(rt, &mut shares, share);
     shares
 }
 
@@ -105,7 +106,7 @@ fn held_completion(rt: HostRuntime) {
     desk.writes_each(&rt, 1, 9);
     desk.submits_each(&rt, 9, 17);
     desk.steps(&rt, Step::Held(Ticket(9)));
-    desk.submits(&rt, Some(17));
+    desk.submits(&rt, Some(Ticket(17)));
     desk.collects(&rt, 8);
     desk.steps(&rt, Step::Wrote(Ticket(9)));
     desk.end();

@@ -5,6 +5,7 @@ ghost use Rattle.std.specs.Prelude.{◌<◌};
 use crate::block::choice::{Change, is_named, share_byte};
 use crate::block::twin::Twin;
 use crate::dice::Dice;
+use crate::list::push;
 use crate::same::same_bytes;
 use fst_types::{Grade, PatchNo};
 use std::alloc::Global;
@@ -19,7 +20,7 @@ fn byte_of(no: PatchNo, place: u32) -> u8 {
 fn bytes_of(rt: &impl Abort, alloc: Global, no: PatchNo, len: u32) -> Vec<u8> {
     let mut bytes = Vec::new(alloc);
     for place in 0..len {
-        bytes.push(byte_of(no, place)).expect(rt, "there is memory");
+        push(rt, &mut bytes, byte_of(no, place));
     }
     bytes
 }
@@ -66,7 +67,7 @@ fn choose(rt: &impl Abort, alloc: Global, changes: &[Change], dice: &mut Dice) -
     let mut chosen: Vec<PatchNo> = Vec::new(alloc);
     for change in changes.iter().rev() {
         if is_under(changes, &chosen, change) || change.grade == Grade::Hard || dice.roll(2) == 0 {
-            chosen.push(change.no).expect(rt, "there is memory");
+            push(rt, &mut chosen, change.no);
         }
     }
     chosen.reverse();
@@ -77,13 +78,13 @@ fn choose(rt: &impl Abort, alloc: Global, changes: &[Change], dice: &mut Dice) -
 fn all_of(rt: &impl Abort, alloc: Global, changes: &[Change]) -> Vec<PatchNo> {
     let mut all = Vec::new(alloc);
     for change in changes {
-        all.push(change.no).expect(rt, "there is memory");
+        push(rt, &mut all, change.no);
     }
     all
 }
 
 // Writes a random patch over the bytes.
-fn put(bytes: &mut [u8], change: &Change) {
+fn write_over(bytes: &mut [u8], change: &Change) {
     let span = change.span;
     for place in 0..span.len {
         if let Some(byte) = bytes.get_mut(span.at as usize + place as usize) {
@@ -103,7 +104,7 @@ fn fold_of(
     let mut bytes = Vec::from_slice(alloc, base).expect(rt, "there is memory");
     for change in changes {
         if is_named(chosen, change.no) {
-            put(&mut bytes, change);
+            write_over(&mut bytes, change);
         }
     }
     bytes

@@ -1,6 +1,7 @@
 //! The limits, where memory is ample: what may be had is had, and what is past a limit is refused for it.
 
 use crate::cache::checked::Checked;
+use crate::list::push;
 use crate::same::same_count;
 use fst_device::{Job, MemorySlot};
 use fst_types::{BlockNo, Fault, Grade, PatchNo, Settled, Shape, What};
@@ -30,8 +31,7 @@ fn zero_slot(rt: &impl Abort, alloc: Global, block: u32, size: u32) -> MemorySlo
 fn cache_of(rt: &impl Abort, alloc: Global, blocks: u32, size: u32) -> Checked {
     let mut slots = Vec::new(alloc);
     for block in 0..blocks {
-        let slot = zero_slot(rt, alloc, block, size);
-        slots.push(slot).expect(rt, "there is memory");
+        push(rt, &mut slots, zero_slot(rt, alloc, block, size));
     }
     Checked::open(rt, alloc, Shape::new(blocks, size, blocks).ok(), slots)
 }
@@ -53,8 +53,7 @@ fn send_each(
 ) -> Vec<Job<MemorySlot>> {
     let mut jobs = Vec::new(alloc);
     for block in 0..blocks {
-        jobs.push(cache.issue(rt, block))
-            .expect(rt, "there is memory");
+        push(rt, &mut jobs, cache.issue(rt, block));
     }
     jobs
 }

@@ -4,6 +4,7 @@
 use crate::dice::Dice;
 use crate::graph::checked::Checked;
 use crate::graph::twin::Twin;
+use crate::list::push;
 use crate::same::{same, same_change};
 use fst_types::{BlockNo, GroupNo, PatchNo, Span};
 use std::alloc::Global;
@@ -43,7 +44,7 @@ impl Dice {
         let numbers = twin.numbers();
         if numbers != 0 {
             for _ in 0..self.roll(4) {
-                names.push(self.name(numbers)).expect(rt, "there is memory");
+                push(rt, &mut names, self.name(numbers));
             }
         }
         names

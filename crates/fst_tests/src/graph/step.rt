@@ -7,6 +7,7 @@
 //! and of the first two bytes of a block, and `empties` and `groups` so many of these, the first of all.
 
 use crate::graph::checked::Checked;
+use crate::list::push;
 use fst_types::{BlockNo, GroupNo, PatchNo, Span};
 use std::alloc::Global;
 use std::fmt::Debug;
@@ -27,7 +28,7 @@ fn parsed(rt: &impl Abort, text: &str) -> u32 {
 // Puts a number so many times behind the numbers.
 fn put(rt: &impl Abort, numbers: &mut Vec<PatchNo>, no: u32, times: u32) {
     for _ in 0..times {
-        numbers.push(PatchNo(no)).expect(rt, "there is memory");
+        push(rt, numbers, PatchNo(no));
     }
 }
 

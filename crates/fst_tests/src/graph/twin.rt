@@ -5,6 +5,7 @@ mod grading;
 mod grouping;
 
 use crate::graph::twin::grouping::Group;
+use crate::list::push;
 use fst_types::{
     BlockNo, Fault, Grade, MAX_HEADS, MAX_NAMES, MAX_NUMBER, PatchNo, Place, Span, What,
 };
@@ -204,7 +205,7 @@ impl Twin {
             place: Place::Memory,
             dependencies,
         };
-        self.patches.push(patch).expect(rt, "there is memory");
+        push(rt, &mut self.patches, patch);
         no
     }
 
@@ -226,7 +227,7 @@ impl Twin {
         let mut found = Vec::new(self.alloc);
         for patch in &self.patches {
             if patch.is_live() && names.contains(&patch.no) {
-                found.push(patch.no).expect(rt, "there is memory");
+                push(rt, &mut found, patch.no);
             }
         }
         found
@@ -254,7 +255,7 @@ impl Twin {
         let mut found = Vec::new(self.alloc);
         for patch in &self.patches {
             if patch.is_live() && (names.contains(&patch.no) || patch.shares_byte(block, span)) {
-                found.push(patch.no).expect(rt, "there is memory");
+                push(rt, &mut found, patch.no);
             }
         }
         found
@@ -365,7 +366,7 @@ impl Twin {
 fn gain(rt: &impl Abort, row: &mut Vec<PatchNo>, gained: &[PatchNo]) {
     for no in gained {
         if !row.contains(no) {
-            row.push(*no).expect(rt, "there is memory");
+            push(rt, row, *no);
         }
     }
 }

@@ -1,6 +1,6 @@
 //! What stops a crew: a thread that cannot be made, a stray, a desk that cannot be closed, refused memory.
 
-use crate::same::same_answer;
+use crate::same::same;
 use crate::slots::zero_slots;
 use crate::store::Store;
 use crate::workers::crew::{
@@ -11,7 +11,7 @@ use crate::workers::pairs::only;
 use fst_crew::{CrewFault, Stacks, closed, crew_on, without_stray};
 use fst_device::{Done, MemorySlot, carry};
 use fst_pairs::Collected;
-use fst_types::Fault;
+use fst_types::{Fault, Ticket};
 use std::alloc::Global;
 use std::process::Abort;
 use std::sync::Wait;
@@ -114,7 +114,7 @@ fn stays_open(
 #[test]
 fn busy_at_close(rt: HostRuntime) {
     let mut checked = changed(&rt, rt.alloc());
-    checked.submits(&rt, Some(1));
+    checked.submits(&rt, Some(Ticket(1)));
     stays_open(&rt, rt.alloc(), checked, true, Fault::Busy);
 }
 
@@ -128,7 +128,7 @@ fn stranger_at_close(rt: HostRuntime) {
 // What a thread makes of two writes that were settled, and of this stray.
 fn meets(rt: &impl Abort, stray: Option<Done<MemorySlot>>, expected: Result<(), Fault>) {
     let met = Collected { settled: 2, stray };
-    same_answer(rt, without_stray(met), expected);
+    same(rt, &without_stray(met), &expected);
 }
 
 // No completion of a crew's own is a stray, so one is put where `collect` hands it out.

@@ -1,5 +1,6 @@
 //! Every call of a desk once, with what it answers.
 
+use crate::same::{same, same_text};
 use crate::workers::pairs::checked::Checked;
 use crate::workers::pairs::with_one;
 use fst_cache::{Share, Stat};
@@ -10,41 +11,41 @@ use std::process::Abort;
 
 // A gate, a change, an empty patch after the change, after which the gate is put before it is sealed.
 fn makes(rt: &impl Abort, desk: &mut Desk<MemorySlot>, share: &mut Share) {
-    assert!(rt; desk.gate(share) == Ok(PatchNo(1)));
+    same(rt, &desk.gate(share), &Ok(PatchNo(1)));
     let change = desk.patch(share, BlockNo(0), 0, b"A", &[]);
-    assert!(rt; change == Ok((PatchNo(2), Grade::Hard)));
-    assert!(rt; desk.empty(share, &[PatchNo(2)]) == Ok(PatchNo(3)));
-    assert!(rt; desk.depend(PatchNo(3), &[]) == Err(Fault::NotGate));
-    assert!(rt; desk.depend(PatchNo(1), &[PatchNo(3)]) == Ok(()));
-    assert!(rt; desk.seal(PatchNo(1)) == Ok(()));
-    assert!(rt; desk.seal(PatchNo(1)) == Err(Fault::Sealed));
-    assert_eq!(rt; share.made(), 3);
+    same(rt, &change, &Ok((PatchNo(2), Grade::Hard)));
+    same(rt, &desk.empty(share, &[PatchNo(2)]), &Ok(PatchNo(3)));
+    same(rt, &desk.depend(PatchNo(3), &[]), &Err(Fault::NotGate));
+    same(rt, &desk.depend(PatchNo(1), &[PatchNo(3)]), &Ok(()));
+    same(rt, &desk.seal(PatchNo(1)), &Ok(()));
+    same(rt, &desk.seal(PatchNo(1)), &Err(Fault::Sealed));
+    same(rt, &share.made(), &3);
 }
 
 // What is told of them: where the first is, and which may be written.
 fn looks_at_patches(rt: &impl Abort, desk: &mut Desk<MemorySlot>) {
-    assert!(rt; desk.place(PatchNo(1)) == Some(Place::Memory));
+    same(rt, &desk.place(PatchNo(1)), &Some(Place::Memory));
     let numbers = desk.choose(BlockNo(0)).expect(rt, "there is memory");
-    assert!(rt; numbers.as_slice() == [PatchNo(2)].as_slice());
+    same(rt, &numbers.as_slice(), &[PatchNo(2)].as_slice());
 }
 
 // What is told of the blocks.
 fn looks_at_blocks(rt: &impl Abort, desk: &mut Desk<MemorySlot>) {
-    assert_eq!(rt; desk.pick(), Some(BlockNo(0)));
-    assert_eq!(rt; desk.stalled(), None);
+    same(rt, &desk.pick(), &Some(BlockNo(0)));
+    same(rt, &desk.stalled(), &None);
     assert!(rt; desk.flight(BlockNo(0)).is_none());
 }
 
 // The first block stays in memory, and the second leaves it.
 fn evicts(rt: &impl Abort, desk: &mut Desk<MemorySlot>) {
-    assert!(rt; desk.evict(BlockNo(0)) == Err(Fault::Dirty));
-    assert!(rt; desk.evict(BlockNo(1)) == Ok(()));
+    same(rt, &desk.evict(BlockNo(0)), &Err(Fault::Dirty));
+    same(rt, &desk.evict(BlockNo(1)), &Ok(()));
 }
 
 // The first block has the first byte of its change.
 fn shows(rt: &impl Abort, desk: &mut Desk<MemorySlot>) {
     let bytes = desk.show(BlockNo(0)).expect(rt, "it is shown");
-    assert!(rt; bytes == b"A\0\0\0".as_slice());
+    same_text(rt, bytes, "A\0\0\0");
 }
 
 // What is counted, and what the desk keeps is at hand.
@@ -55,7 +56,7 @@ fn counts(rt: &impl Abort, desk: &Desk<MemorySlot>) {
         undo: 0,
         flights: 0,
     };
-    assert_eq!(rt; desk.stat(), counted);
+    same(rt, &desk.stat(), &counted);
     desk.headline();
     desk.keeps_order();
 }
@@ -65,14 +66,14 @@ fn looks_at_flight(rt: &impl Abort, desk: &Desk<MemorySlot>) {
     let flight = desk
         .flight(BlockNo(0))
         .expect(rt, "a write of the block is out");
-    assert_eq!(rt; flight.ticket, Ticket(1));
-    assert!(rt; flight.image == b"A\0\0\0".as_slice());
+    same(rt, &flight.ticket, &Ticket(1));
+    same_text(rt, flight.image, "A\0\0\0");
 }
 
 // What the worker and the desk keep is at hand, and all patches are forgotten.
 fn forgets(rt: &impl Abort, checked: &mut Checked<MemorySlot>) {
     checked.worker.keeps_order();
-    assert_eq!(rt; checked.desk.forget(), 3);
+    same(rt, &checked.desk.forget(), &3);
 }
 
 #[test]
@@ -84,7 +85,7 @@ fn each_call_answers(rt: HostRuntime) {
     evicts(&rt, &mut checked.desk);
     shows(&rt, &mut checked.desk);
     counts(&rt, &checked.desk);
-    checked.submits(&rt, Some(1));
+    checked.submits(&rt, Some(Ticket(1)));
     looks_at_flight(&rt, &checked.desk);
     checked.resubmits(&rt, 0, Err(Fault::NotStalled));
     checked.write_one(&rt, 1);

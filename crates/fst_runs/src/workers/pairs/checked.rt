@@ -1,6 +1,7 @@
 //! A desk with one worker, each call of which is compared with the answer that the test names. Contracts see nothing of it,
 //! so that a long test carries no facts from call to call.
 
+use crate::same::same;
 use crate::store::Store;
 use crate::workers::pairs::{
     collects, last, only, opened, patch_all, steps, submits, submits_each,
@@ -30,7 +31,7 @@ impl<S: BlockSlot> Model for Checked<S> {
 // What was made, sent and landed, and what stalled or was lost.
 fn counts<S: BlockSlot>(rt: &impl Abort, totals: &Totals<S>, expected: (u64, u64, u64, u64)) {
     let counted = (totals.made, totals.sent, totals.landed, totals.stalled);
-    assert_eq!(rt; counted, expected);
+    same(rt, &counted, &expected);
 }
 
 // What a desk that closes adds up.
@@ -66,11 +67,11 @@ impl<S: BlockSlot> Checked<S> {
         let made = self
             .desk
             .patch(&mut self.share, BlockNo(block), 0, b"B", &[]);
-        assert!(rt; made == Err(expected));
+        same(rt, &made.err(), &Some(expected));
     }
 
     /// The next write is sent under this ticket, or none is.
-    pub fn submits(&mut self, rt: &impl Abort, expected: Option<u64>) {
+    pub fn submits(&mut self, rt: &impl Abort, expected: Option<Ticket>) {
         submits(rt, &mut self.desk, expected);
     }
 
@@ -104,7 +105,7 @@ impl<S: BlockSlot> Checked<S> {
 
     /// The block that waits for a retry.
     pub fn stalled(&self, rt: &impl Abort, expected: Option<BlockNo>) {
-        assert_eq!(rt; self.desk.stalled(), expected);
+        same(rt, &self.desk.stalled(), &expected);
     }
 
     /// What it answers where the write of a block is to be sent again.
@@ -114,7 +115,7 @@ impl<S: BlockSlot> Checked<S> {
         block: u32,
         expected: Result<Option<Ticket>, Fault>,
     ) {
-        assert!(rt; self.desk.resubmit(BlockNo(block)) == expected);
+        same(rt, &self.desk.resubmit(BlockNo(block)), &expected);
     }
 
     /// The desk closes: what was made, sent and landed, and what stalled or was lost. The cache is handed out.

@@ -1,5 +1,6 @@
 //! What opening and closing a desk ask.
 
+use crate::same::same;
 use crate::store::Store;
 use crate::workers::pairs::checked::Checked;
 use crate::workers::pairs::{collects, only, opens, submits, with_one, zeros};
@@ -17,7 +18,7 @@ fn closing_adds_up(rt: HostRuntime) {
     let mut desk = with_one(&rt, rt.alloc(), 2);
     desk.patch_all(&rt, 2);
     for ticket in 1..3 {
-        desk.submits(&rt, Some(ticket));
+        desk.submits(&rt, Some(Ticket(ticket)));
         desk.write_one(&rt, ticket);
     }
     let store = desk.closes(&rt, rt.alloc(), (2, 2, 2, 0));
@@ -35,7 +36,7 @@ fn refuses(rt: &impl Abort, shared: Shared, expected: Fault) -> Shared {
         .close(shares)
         .err()
         .expect(rt, "the desk does not close");
-    assert!(rt; refused.fault == expected);
+    same(rt, &refused.fault, &expected);
     (refused.desk, refused.shares)
 }
 
@@ -48,7 +49,7 @@ fn closes(rt: &impl Abort, desk: Desk<MemorySlot>, shares: Vec<Share>) {
 fn not_collected(rt: &impl Abort, alloc: Global) -> Shared {
     let mut checked = with_one(rt, alloc, 1);
     checked.patch_all(rt, 1);
-    checked.submits(rt, Some(1));
+    checked.submits(rt, Some(Ticket(1)));
     checked.steps(rt, Step::Wrote(Ticket(1)));
     let Checked {
         desk,
@@ -63,7 +64,7 @@ fn not_collected(rt: &impl Abort, alloc: Global) -> Shared {
 #[test]
 fn sent_and_not_collected(rt: HostRuntime) {
     let (mut desk, shares) = refuses(&rt, not_collected(&rt, rt.alloc()), Fault::Busy);
-    assert_eq!(rt; shares.len(), 1);
+    same(&rt, &shares.len(), &1);
     collects(&rt, &mut desk, 1);
     let (desk, _) = refuses(&rt, (desk, Vec::new(rt.alloc())), Fault::Stranger);
     closes(&rt, desk, shares);
@@ -80,7 +81,7 @@ fn stays_shut(
     let (cache, fault) = Desk::open(alloc, store.into_cache(), workers)
         .err()
         .expect(rt, "the desk does not open");
-    assert!(rt; fault == expected);
+    same(rt, &fault, &expected);
     Store::new(cache)
 }
 
@@ -105,7 +106,7 @@ fn opens_over_no_write_that_is_out(rt: HostRuntime) {
 
 // Nothing of the heap is taken.
 fn is_empty(rt: &impl Abort, heap: &LocalHeap) {
-    assert_eq!(rt; heap.used(), 0);
+    same(rt, &heap.used(), &0);
 }
 
 // A desk with its rings in a heap, and its workers: it sends a write.
@@ -115,8 +116,8 @@ fn sends_one<'a>(
     workers: Vec<Worker<MemorySlot, &'a LocalHeap>, &'a LocalHeap>,
 ) {
     let mut desk = desk;
-    assert!(rt; workers.len() == 8);
-    submits(rt, &mut desk, Some(1));
+    same(rt, &workers.len(), &8);
+    submits(rt, &mut desk, Some(Ticket(1)));
 }
 
 // Opens a desk with its rings in this heap. Where there is no memory, and only then, the cache comes back.
@@ -131,7 +132,7 @@ fn opened_within(
             None
         }
         Err((back, fault)) => {
-            assert!(rt; fault == Fault::Memory);
+            same(rt, &fault, &Fault::Memory);
             Some(Store::new(back))
         }
     }

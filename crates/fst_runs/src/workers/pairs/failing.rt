@@ -1,6 +1,7 @@
 //! Writes that fail: stalled, sent again, and lost.
 
-use crate::slots::{add, zero_slot};
+use crate::list::push;
+use crate::slots::zero_slot;
 use crate::store::Store;
 use crate::workers::failing::{Failing, Habit};
 use crate::workers::pairs::checked::Checked;
@@ -13,7 +14,7 @@ use std::process::Abort;
 // A cache of one block, over this slot.
 fn alone<S: BlockSlot>(rt: &impl Abort, alloc: Global, slot: S) -> Store<S> {
     let mut slots = Vec::new(alloc);
-    add(rt, &mut slots, slot);
+    push(rt, &mut slots, slot);
     Store::over(rt, alloc, slots, Shape::new(1, 4, 1).ok())
 }
 
@@ -29,7 +30,7 @@ fn armed(rt: &impl Abort, alloc: Global, arm: Arm) -> Checked<MemorySlot> {
 fn only_write_stalls(rt: HostRuntime) {
     let mut desk = armed(&rt, rt.alloc(), Arm::WriteFailsBefore);
     desk.patch_all(&rt, 1);
-    desk.submits(&rt, Some(1));
+    desk.submits(&rt, Some(Ticket(1)));
     desk.write_one(&rt, 1);
     let store = desk.closes(&rt, rt.alloc(), (1, 1, 0, 1));
     store.is_stalled(&rt, 0);
@@ -41,7 +42,7 @@ fn only_write_stalls(rt: HostRuntime) {
 fn stalled_write_goes_again(rt: HostRuntime) {
     let mut desk = armed(&rt, rt.alloc(), Arm::WriteFailsAfter);
     desk.patch_all(&rt, 1);
-    desk.submits(&rt, Some(1));
+    desk.submits(&rt, Some(Ticket(1)));
     desk.resubmits(&rt, 0, Err(Fault::NotStalled));
     desk.write_one(&rt, 1);
     desk.stalled(&rt, Some(BlockNo(0)));
@@ -73,7 +74,7 @@ fn tries(rt: &impl Abort, desk: &mut Checked<Failing>) {
 fn lost_write_counts_as_stalled(rt: HostRuntime) {
     let mut desk = all_fail(&rt, rt.alloc());
     desk.patch_all(&rt, 1);
-    desk.submits(&rt, Some(1));
+    desk.submits(&rt, Some(Ticket(1)));
     tries(&rt, &mut desk);
     desk.stalled(&rt, None);
     desk.resubmits(&rt, 0, Err(Fault::Lost));

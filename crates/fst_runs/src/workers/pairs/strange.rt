@@ -3,6 +3,7 @@
 ghost use Rattle.std.specs.Prelude.{◌≡◌};
 ghost use Rattle.fst_pairs.specs.Desking.{new_worker};
 
+use crate::same::{same, same_text};
 use crate::workers::pairs::zeros;
 use fst_device::{Done, MemorySlot, carry};
 use fst_pairs::{Desk, Worker};
@@ -43,14 +44,14 @@ fn told(rt: &impl Abort, alloc: Global, done: Done<MemorySlot>) -> Desk<MemorySl
 // The stray is that completion.
 fn is_stranger(rt: &impl Abort, stray: Option<Done<MemorySlot>>) {
     let stray = stray.expect(rt, "there is a stray");
-    assert_eq!(rt; stray.ticket(), Ticket(1));
-    assert!(rt; stray.image() == b"B\0\0\0".as_slice());
+    same(rt, &stray.ticket(), &Ticket(1));
+    same_text(rt, stray.image(), "B\0\0\0");
 }
 
 // It is handed out as the stray.
 fn hands_out(rt: &impl Abort, desk: &mut Desk<MemorySlot>) {
     let collected = desk.collect();
-    assert_eq!(rt; collected.settled, 0);
+    same(rt, &collected.settled, &0);
     is_stranger(rt, collected.stray);
 }
 
@@ -60,7 +61,7 @@ fn stays_open(rt: &impl Abort, alloc: Global, desk: Desk<MemorySlot>, expected: 
         .close(Vec::new(alloc))
         .err()
         .expect(rt, "it does not close");
-    assert!(rt; refused.fault == expected);
+    same(rt, &refused.fault, &expected);
 }
 
 // It is handed out as the stray, and the desk is not closed any more.

@@ -1,6 +1,7 @@
 //! What the twin may write, and how it grades a new change.
 
 use crate::graph::twin::{Kind, Patch, Twin};
+use crate::list::push;
 use fst_types::{BlockNo, Grade, PatchNo, Place};
 use std::process::Abort;
 
@@ -42,7 +43,7 @@ impl Twin {
         let mut chosen = Vec::new(self.alloc);
         for patch in &self.patches {
             if self.is_in_writable_set(rt, patch, block) {
-                chosen.push(patch.no).expect(rt, "there is memory");
+                push(rt, &mut chosen, patch.no);
             }
         }
         chosen
@@ -115,7 +116,7 @@ impl Twin {
         for block in 0..self.blocks {
             let from = BlockNo(block);
             if !found.contains(&from) && self.has_edge(rt, from, to) {
-                found.push(from).expect(rt, "there is memory");
+                push(rt, found, from);
             }
         }
     }

@@ -1,6 +1,7 @@
 //! The groups of the twin.
 
 use crate::graph::twin::{Kind, Twin};
+use crate::list::push;
 use fst_types::{
     BlockNo, Fault, Grade, GroupNo, MAX_GROUPS, MAX_HEADS, MAX_NUMBER, PatchNo, Span, What,
 };
@@ -83,7 +84,7 @@ impl Twin {
             begun: false,
             closed: false,
         };
-        self.groups.push(group).expect(rt, "there is memory");
+        push(rt, &mut self.groups, group);
         Ok(group.number())
     }
 
