@@ -193,3 +193,6 @@ returns-then-is_some-clause-down c = grind (arith, common_steps)
 
 pub returns-then-is_some-clause-up : goal.returns-then-is_some-clause-up
 returns-then-is_some-clause-up c = grind (arith, common_steps)
+
+pub returns-then-min-limit-clause-apart : goal.returns-then-min-limit-clause-apart
+returns-then-min-limit-clause-apart c = tt
