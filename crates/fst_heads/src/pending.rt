@@ -2,7 +2,7 @@
 
 ghost use Rattle.std.specs.Prelude.{◌≡◌, ◌<◌, ◌≢◌, ◌+◌};
 ghost use Rattle.fst_heads.specs.declared.pending.Pending.TheVariants as pending_as;
-ghost use Rattle.fst_heads.specs.Pendings.{is_pending, meet, join, of_change, nothing, plus, minus, together, joined_sums, Fits, HasIn};
+ghost use Rattle.fst_heads.specs.Pendings.{is_pending, meet, join, of_change, nothing, plus, minus, together, is_even, of_mean, joined_sums, Fits, HasIn};
 
 use fst_types::Place;
 
@@ -232,6 +232,33 @@ impl Sums {
         }
     }
 
+    // Whether all patches of the row wait for the mean block alone.
+    fn is_even(&self) -> bool
+        requires { 0 < self.now.count }
+        ensures { result ≡ is_even self.now }
+    {
+        if self.apart > 0 {
+            return false;
+        }
+        let count = u32::from(self.count);
+        let block = self.total / count;
+        block * count == self.total && u64::from(block) * u64::from(self.total) == self.squares
+    }
+
+    // What is pending of patches that all wait for the mean block.
+    fn of_mean(&self) -> Pending
+        requires fits { Fits self.now }
+        requires some { 0 < self.now.count }
+        ensures { result ≡ of_mean self.now }
+    {
+        let block = (self.total / u32::from(self.count)) as u16;
+        if self.behind == 0 {
+            Pending::Block(block)
+        } else {
+            Pending::Behind(block)
+        }
+    }
+
     /// What is pending of the row.
     pub fn joined(&self) -> Pending
         requires { Fits self.now }
@@ -243,20 +270,10 @@ impl Sums {
         if self.held > 0 {
             return Pending::Held;
         }
-        if self.apart > 0 {
-            return Pending::Apart;
-        }
-        let count = u32::from(self.count);
-        let block = self.total / count;
-        let is_even = block * count == self.total
-            && u64::from(block) * u64::from(self.total) == self.squares;
-        if !is_even {
-            return Pending::Apart;
-        }
-        if self.behind == 0 {
-            Pending::Block(block as u16)
+        if self.is_even() {
+            self.of_mean()
         } else {
-            Pending::Behind(block as u16)
+            Pending::Apart
         }
     }
 }
