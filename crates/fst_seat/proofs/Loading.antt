@@ -35,7 +35,7 @@ still_home seat still = by_flight seat.block.flight seat.loaded still
     by_flight None l e = refl
     by_flight (Some f) l e = absurd (false≢true (sym e))
 
-none_of : (o : Option BlockView) → is_some o ≡ false → o ≡ None
+pub none_of : (o : Option BlockView) → is_some o ≡ false → o ≡ None
 none_of None e = refl
 none_of (Some l) e = absurd (false≢true (sym e))
 

@@ -1,3 +1,4 @@
+use Rattle.std.proofs.lemmas.Grind.{common_steps}
 use Rattle.fst_heads.proofs.{Basics.{subst, List, ◌≡◌, ◌∙◌, ◌≤◌, ◌++◌, ◌∷◌, [], true, false, length, reverse, cond, ℕ, Result, Ok, Err, is_ok, if◌then◌else◌, false≢true, refl, sym, ap, arith, append-nil}, Words.{is_ready_on, nodes_of, numbers_of, ready_on}}
 use Rattle.fst_heads.proofs.Patches.{PatchNo}
 use Rattle.std.specs.Result.{is_err}
@@ -86,3 +87,9 @@ returns-then-is_err-clause-refused c =
     let ends = c.in-Some.ensures in
     let shorter = passing_shorter (is_ready_on c.args.block) c.args.heads.now.list.items c.loop-left.rest.now c.in-Some.others.now c.in-Some.listed c.loop-left.from_back ends.front ends.back (sym c.if-is_ready_at.ensures) in
     (found_some _ _ _ _ _ c.loop-left.invariant.found shorter, refl)
+
+pub loop-left-smaller : goal.loop-left-smaller
+loop-left-smaller c = grind (arith, common_steps)
+
+pub returns-in-Err-clause-refused : goal.returns-in-Err-clause-refused
+returns-in-Err-clause-refused c = grind (arith, common_steps)

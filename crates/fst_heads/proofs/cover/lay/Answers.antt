@@ -1,3 +1,4 @@
+use Rattle.std.proofs.lemmas.Grind.{common_steps}
 use Rattle.std.proofs.Common.{◌≡◌, ◌≤◌, ◌+◌, ◌++◌, ◌∷◌, ◌∙◌, [], List, ℕ, zero, suc, set, take, drop, length, refl, ap, arith}
 use native.Mathlib.Numerals.{unary_clauses}
 use Rattle.fst_heads.proofs.Words.{Run}
@@ -23,3 +24,15 @@ pub returns-after-loop-surplus : goal.returns-after-loop-surplus
 returns-after-loop-surplus c =
     c.loop-surplus.invariant.items
     ∙ two_set c.args.runs.now.items c.args.first c.args.past c.loop-surplus.surplus c.args.own c.args.end c.loop-surplus.invariant.behind c.loop-surplus-test.false c.loop-surplus.auto.surplus c.requires.within
+
+pub loop-surplus-init : goal.loop-surplus-init
+loop-surplus-init c = grind (arith, common_steps)
+
+pub remove-requires : goal.remove-requires
+remove-requires c = grind (arith, common_steps)
+
+pub loop-surplus-preserved : goal.loop-surplus-preserved
+loop-surplus-preserved c = grind (arith, common_steps)
+
+pub returns-in-1 : goal.returns-in-1
+returns-in-1 c = grind (arith, common_steps)

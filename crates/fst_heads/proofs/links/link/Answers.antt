@@ -1,3 +1,4 @@
+use Rattle.std.proofs.lemmas.Grind.{common_steps}
 use Rattle.fst_heads.proofs.{Basics.{◌≡◌, ◌∙◌, get_or, map, ap, take, arith, rules}, Words.{Head, patch_of, node_of, nodes_of, at_number}}
 use Rattle.fst_heads.proofs.{AtNumber.{at_index, at_none}, Framed.still_below}
 use Rattle.fst_heads.proofs.Linking.{adds, rising_linked, room_first, room_left, room_fewer, link_none, link_more}
@@ -33,3 +34,6 @@ loop-other-preserved c =
           })
       | in_default w ↦ grind (arith, at_none, room_fewer)
     ]
+
+pub returns-clause-nodes : goal.returns-clause-nodes
+returns-clause-nodes c = grind (arith, common_steps)

@@ -1,3 +1,4 @@
+use Rattle.std.proofs.lemmas.Grind.{common_steps}
 use Rattle.fst_heads.proofs.{Basics.{take, drop, ◌-◌, length-set, ◌≡◌, ◌≤◌, ◌∙◌, ◌∷◌, ◌++◌, [], length, cond, drop_all, append-nil, refl, sym, ap, arith, cases_Bool, inl, inr}, Words.{nodes_of, patches_of, flying_on}}
 use Rattle.fst_heads.proofs.{Listing.{flies, flying_few}, Passing.{passing, passes_at, passing_within, passing_front, passing_back, rising_list}}
 use Rattle.fst_heads.proofs.Landing.{Taken, taken_front, taken_back, numbers_in, numbers_last, landing_begins, landing_flies, landing_step, landing_all, flying_passes, placed_front, placed_back, placed_all}
@@ -92,3 +93,12 @@ returns-after-loop-low-clause-nodes c =
     let inside : c.loop-low.high ≤ length queue = omega (arith, I.long, I.ends.1) in
     let all = placed_all queue _ (flying_on b (patches_of start)) c.loop-low.low c.loop-low.high inside I.placed I.ends.0 (c.requires.flying ∙ sym I.long) (inr c.loop-low-test.false) in
     landing_all b start c.loop-low.heads.list.items _ I.landing all.0
+
+pub loop-low-smaller : goal.loop-low-smaller
+loop-low-smaller c = grind (arith, common_steps)
+
+pub returns-after-loop-low-clause-queued : goal.returns-after-loop-low-clause-queued
+returns-after-loop-low-clause-queued c = grind (arith, common_steps)
+
+pub returns-in_default-clause-queued : goal.returns-in_default-clause-queued
+returns-in_default-clause-queued c = grind (arith, common_steps)

@@ -1,3 +1,4 @@
+use Rattle.std.proofs.lemmas.Grind.{common_steps}
 use Rattle.std.proofs.Common.{◌<◌, ◌∙◌, arith, sym}
 use Rattle.fst_heads.proofs.LastOnDisk.{disk_apart, disk_here, disk_met, disk_no, disk_start, disk_yes}
 use Rattle.fst_heads.proofs.places.end_on_disk.Goals.{In-loop-left, then-not-is_kept-2, else-not-is_kept-2}
@@ -32,3 +33,27 @@ loop-left-preserved c =
 
 pub returns : goal.returns
 returns c = disk_met c.args.heads.now c.args.first c.requires.first _ _ _ c.loop-left.invariant (omega (arith, c.loop-left-test.false))
+
+pub overflow_sub-left : goal.overflow_sub-left
+overflow_sub-left c = grind (arith, common_steps)
+
+pub offset_bounds-heads-end : goal.offset_bounds-heads-end
+offset_bounds-heads-end c = grind (arith, common_steps)
+
+pub bounds-heads-end : goal.bounds-heads-end
+bounds-heads-end c = grind (arith, common_steps)
+
+pub overflow_sub-end-in-loop-left : goal.overflow_sub-end-in-loop-left
+overflow_sub-end-in-loop-left c = grind (arith, common_steps)
+
+pub offset_bounds-heads-index : goal.offset_bounds-heads-index
+offset_bounds-heads-index c = grind (arith, common_steps)
+
+pub bounds-heads-index : goal.bounds-heads-index
+bounds-heads-index c = grind (arith, common_steps)
+
+pub overflow_add-index : goal.overflow_add-index
+overflow_add-index c = grind (arith, common_steps)
+
+pub loop-left-smaller : goal.loop-left-smaller
+loop-left-smaller c = grind (arith, common_steps)

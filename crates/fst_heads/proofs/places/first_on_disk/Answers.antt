@@ -1,4 +1,5 @@
-use Rattle.std.proofs.Common.{◌<◌, ◌∙◌, length, sym, subst, rules}
+use Rattle.std.proofs.lemmas.Grind.{common_steps}
+use Rattle.std.proofs.Common.{◌<◌, ◌∙◌, length, sym, subst, rules, arith}
 use Rattle.std.proofs.lemmas.List.{length-map}
 use Rattle.fst_types.specs.Tests.{is_live}
 use Rattle.fst_heads.specs.Heads.{patch_of, patches_of}
@@ -42,3 +43,12 @@ pub loop-live_below-preserved : goal.loop-live_below-preserved
 loop-live_below-preserved c =
     high_dead c.args.heads.now _ _ _ c.loop-live_below.invariant c.loop-live_below-test.true c.index-heads-low.result c.index-heads-low.is c.index-heads-high.result c.index-heads-high.is
     (sym c.is_kept.ensures ∙ c.if-not-is_kept.false) (sym c.is_kept-in-loop-live_below.ensures ∙ c.if-is_kept.false)
+
+pub offset_bounds-heads-high : goal.offset_bounds-heads-high
+offset_bounds-heads-high c = grind (arith, common_steps)
+
+pub bounds-heads-high : goal.bounds-heads-high
+bounds-heads-high c = grind (arith, common_steps)
+
+pub returns : goal.returns
+returns c = grind (arith, common_steps)

@@ -75,3 +75,6 @@ returns-else-level-least-clause-visited c = grind (arith, common_steps)
 
 pub returns-in_default-clause-visited : goal.returns-in_default-clause-visited
 returns-in_default-clause-visited c = grind (arith, common_steps)
+
+pub level-requires : goal.level-requires
+level-requires c = grind (arith, common_steps)

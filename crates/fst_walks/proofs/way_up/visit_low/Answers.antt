@@ -1,3 +1,4 @@
+use Rattle.std.proofs.lemmas.Grind.{common_steps}
 use Rattle.std.proofs.Common.{◌≡◌, ◌≤◌, ◌∙◌, get_or, refl, subst, arith}
 use Rattle.fst_types.specs.Dependencies.{IsLiveNumber}
 use Rattle.fst_heads.specs.{Heads.{patch_of, patches_of}, Indices.HasIndex}
@@ -52,3 +53,6 @@ returns-in_default-clause-visits c =
     let n = c.args.number in
     let low = IsLow (patches_of heads) (level_of sight.levels.now.ranks) c.args.most in
     visits_none (λ m. (m ≡ n) × low m) (numbers_met heads c.args.walk.now) (λ m k. absurd (not_live_none heads n c.in_default.ensures.none (subst low k.0 k.1).0))
+
+pub level-requires : goal.level-requires
+level-requires c = grind (arith, common_steps)

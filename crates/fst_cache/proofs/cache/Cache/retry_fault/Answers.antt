@@ -1,3 +1,4 @@
+use Rattle.std.proofs.lemmas.Grind.{common_steps}
 use Rattle.std.proofs.Common.{arith, ◌≡◌, ◌∙◌, ◌<◌, true, false, Some, None, length, slice_get, refl, sym, inl, inr}
 use Rattle.std.proofs.lemmas.List.{length-map}
 use Rattle.fst_types.specs.Flights.{IsStalled, IsLost}
@@ -54,3 +55,6 @@ returns-clause-back g c =
 
 pub seat-seat-requires : goal.seat-seat-requires
 seat-seat-requires g c = omega (arith, c.if-block-len.false, c.len.ensures)
+
+pub returns-then-block-len-clause-fault : goal.returns-then-block-len-clause-fault
+returns-then-block-len-clause-fault g c = grind (arith, common_steps)

@@ -1,3 +1,4 @@
+use Rattle.std.proofs.lemmas.Grind.{common_steps}
 use Rattle.std.proofs.Common.{arith, ◌≡◌, ◌∙◌, ◌<◌, ◌+◌, ◌⊎◌, ℕ, Some, length, slice_get, refl, sym, inl, inr, ◌≤◌}
 use Rattle.std.proofs.lemmas.Bool.{cases_lt, true≢false}
 use Rattle.std.proofs.lemmas.List.{length-map}
@@ -49,3 +50,6 @@ returns g c =
       fits = λ h. elim h [ inl e ↦ grind (arith, e, c.is_empty.ensures, c.if-is_empty.false) | inr l ↦ omega (arith, l) ];
       room = room;
     })
+
+pub returns-then-block-len : goal.returns-then-block-len
+returns-then-block-len g c = grind (arith, common_steps)

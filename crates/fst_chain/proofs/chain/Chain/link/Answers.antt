@@ -1,3 +1,4 @@
+use Rattle.std.proofs.lemmas.Grind.{common_steps}
 use Rattle.std.proofs.Common.{◌≡◌, suc, ◌-◌, ◌<◌, [], ◌∷◌, ◌++◌, length, refl, sym, ap, ◌∙◌, arith, length-append, None}
 use Rattle.std.proofs.lemmas.List.{map-append}
 use Rattle.std.proofs.Math.Seq.{map-set_same}
@@ -42,3 +43,9 @@ returns-clause-records g c =
           (map-set_same record_of c.put-at.new.self.items (c.self.inside.len - 1) _ w.at_mut-before.result.now (ap record_of w.at_mut-before.ensures.value)
           ∙ rw (c.put-at.ensures.items, map-append record_of xs (n ∷ []), c.in-Some.ensures.payload, ← c.self.view_is) refl)
     ]
+
+pub overflow_sub-self-inside : goal.overflow_sub-self-inside
+overflow_sub-self-inside g c = grind (arith, common_steps)
+
+pub overflow_add-self : goal.overflow_add-self
+overflow_add-self g c = grind (arith, common_steps)

@@ -32,3 +32,9 @@ returns-else-level-clause-room c = grind (arith, common_steps)
 
 pub returns-then-level-clause-room : goal.returns-then-level-clause-room
 returns-then-level-clause-room c = grind (arith, common_steps)
+
+pub level-requires : goal.level-requires
+level-requires c = grind (arith, common_steps)
+
+pub raise-requires : goal.raise-requires
+raise-requires c = grind (arith, common_steps)

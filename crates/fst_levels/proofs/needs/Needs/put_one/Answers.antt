@@ -1,3 +1,4 @@
+use Rattle.std.proofs.lemmas.Grind.{common_steps}
 use Rattle.std.proofs.{Common.{◌∙◌, ◌<◌, ◌++◌, ◌∷◌, ◌⊎◌, [], map, Contains, set, length, ap, arith, sym, subst}, lemmas.List.{length-map, length-set}, Math.Seq.map-set_same}
 use Rattle.fst_heads.specs.Heads.{patches_of}
 use Rattle.fst_levels.specs.Needing.{IsSpared, Needing}
@@ -42,3 +43,12 @@ returns-else-not-is_told-clause-put c =
     rw (← c.self.view_is, same)
     (put_told (patches_of c.args.heads.now.list.items) s.block c.args.number (map numbers_in ls)
     (subst (λ ns. Contains ns c.args.number ⊎ IsSpared (patches_of c.args.heads.now.list.items) s.block ns c.args.number) row (c.is_told.ensures c.if-not-is_told.false)))
+
+pub index_mut-list-requires : goal.index_mut-list-requires
+index_mut-list-requires c = grind (arith, common_steps)
+
+pub push_reserved-requires : goal.push_reserved-requires
+push_reserved-requires c = grind (arith, common_steps)
+
+pub invariant_of-self-else-not-is_told : goal.invariant_of-self-else-not-is_told
+invariant_of-self-else-not-is_told c = grind (arith, common_steps)

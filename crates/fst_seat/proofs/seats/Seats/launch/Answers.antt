@@ -1,4 +1,5 @@
-use Rattle.std.proofs.Common.{◌≡◌, ◌∙◌, ◌<◌, Some, false, is_some, length, slice_get, slice_set, refl, sym, ap, subst}
+use Rattle.std.proofs.lemmas.Grind.{common_steps}
+use Rattle.std.proofs.Common.{◌≡◌, ◌∙◌, ◌<◌, Some, false, is_some, length, slice_get, slice_set, refl, sym, ap, subst, arith}
 use Rattle.std.proofs.lemmas.Option.{none-some, slice_get_read, same_Some}
 use Rattle.fst_block.specs.BlockView.{BlockView}
 use Rattle.fst_seat.specs.Seats.{SeatView, flight_view}
@@ -52,3 +53,6 @@ returns-clause-sent g c =
     let views : r.view ≡ view = same_Some _ _ (sym r.there ∙ (ap (λ (t : SeatView). t.loaded) same ∙ loaded)) in
     ap (λ (t : SeatView). record { most = c.self.inside.residents.most; seats = slice_set c.self.inside.seats.items c.args.block.0 t })
     (left g at.After-launch r ∙ (ap (λ (t : SeatView). sent t r.view c.args.ticket.0 c.args.chosen.items c.args.image.items) same ∙ ap (λ (v : BlockView). sent seat v c.args.ticket.0 c.args.chosen.items c.args.image.items) views)))
+
+pub overflow_add-self : goal.overflow_add-self
+overflow_add-self g c = grind (arith, common_steps)
