@@ -1,3 +1,4 @@
+use Rattle.std.proofs.lemmas.Grind.{common_steps}
 use Rattle.std.proofs.Common.{◌≡◌, ◌<◌, ◌∙◌, get_or, refl, Some, None, ap, arith, subst, sym}
 use Rattle.fst_heads.specs.{Heads.patches_of, Nodes.nodes_of, Standings.{NoneHeldBelow, without_changes}, declared.standing.Standing.Standing}
 use Rattle.fst_heads.proofs.{Counts.held_counted, Indices.any_default}
@@ -82,3 +83,6 @@ invariant_of-self-2 c =
       },
       unspared c.self.invariant.1,
     )
+
+pub note_held-requires : goal.note_held-requires
+note_held-requires c = grind (arith, common_steps)

@@ -1,3 +1,4 @@
+use Rattle.std.proofs.lemmas.Grind.{common_steps}
 use Rattle.std.proofs.{Common.{◌≡◌, ◌+◌, ◌++◌, ◌∷◌, [], ◌<◌, ◌∙◌, ◌↔◌, Bool, true, false, arith, length, None, Some, inl, inr, ap, sym, subst, refl}, lemmas.Bool.false≢true}
 use Rattle.fst_types.specs.{Order.room_order, Refusals.NoneHolds}
 use Rattle.fst_heads.specs.{Heads.patches_of, Nodes.{is_forgotten_in, nodes_of}}
@@ -174,3 +175,24 @@ reserve_in-inside-requires-clause-disk c =
     let at = (goal.at.reserve_in-inside-requires-clause-disk c).After-reserve_around-around in
     let around = roomier_sound (walked at) {landed = c.reserve_around-around.new.landed} c.reserve_around-around.ensures.roomier in
     around.keeps.lawful.on_disk_with_all
+
+pub invariant_of-self : goal.invariant_of-self
+invariant_of-self c = grind (arith, common_steps)
+
+pub invariant_of-self-in-Some : goal.invariant_of-self-in-Some
+invariant_of-self-in-Some c = grind (arith, common_steps)
+
+pub prepare_member-requires-clause-up : goal.prepare_member-requires-clause-up
+prepare_member-requires-clause-up c = grind (arith, common_steps)
+
+pub prepare_member-requires-clause-down : goal.prepare_member-requires-clause-down
+prepare_member-requires-clause-down c = grind (arith, common_steps)
+
+pub prepare_member-requires-clause-block : goal.prepare_member-requires-clause-block
+prepare_member-requires-clause-block c = grind (arith, common_steps)
+
+pub invariant_of-self-in_default-prepare_member : goal.invariant_of-self-in_default-prepare_member
+invariant_of-self-in_default-prepare_member c = grind (arith, common_steps)
+
+pub reserve_in-inside-requires-clause-list : goal.reserve_in-inside-requires-clause-list
+reserve_in-inside-requires-clause-list c = grind (arith, common_steps)

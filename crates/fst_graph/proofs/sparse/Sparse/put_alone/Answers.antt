@@ -1,3 +1,4 @@
+use Rattle.std.proofs.lemmas.Grind.{common_steps}
 use Rattle.std.proofs.Common.{◌≡◌, ◌<◌, ◌+◌, ◌++◌, ◌∷◌, ◌∙◌, [], ℕ, Option, None, Some, IfSome, IfNone, option_map, Contains, length, arith, sym, subst, refl, ap, map}
 use Rattle.std.specs.Vec.{with_item}
 use Rattle.fst_types.specs.{Dependencies.{DirectlyOn, IsLiveNumber}, Gating.gains, Limits.max_heads, Lists.Lists}
@@ -228,3 +229,6 @@ overflow_add-self c =
 
 pub overflow_cast-block : goal.overflow_cast-block
 overflow_cast-block c = omega (arith, (now (goal.at.overflow_cast-block c).After-as_slice-row).down.ready.inside, c.self.ranges)
+
+pub overflow_cast-kind : goal.overflow_cast-kind
+overflow_cast-kind c = grind (arith, common_steps)
