@@ -18,9 +18,9 @@ fn open<R: Files<File = File>>(rt: &R, name: &str) -> io::Result<File> {
         .open(rt, name)
 }
 
-// Gives a new file its accounts.
+// Gives a new file its accounts, from its beginning on: a file that was cut while it was made is too short, and refused.
 fn begin(file: &File) -> io::Result<()> {
-    for block in (0..BLOCKS).rev() {
+    for block in 0..BLOCKS {
         file.write_all_at(&new_block(block), u64::from(block) * u64::from(SIZE))?;
     }
     file.sync_data()
@@ -81,6 +81,9 @@ fn transfer_of(line: &str) -> Option<(u16, u16, u32)> {
     let from = words.next()?.parse().ok()?;
     let to = words.next()?.parse().ok()?;
     let amount = words.next()?.parse().ok()?;
+    if words.next().is_some() {
+        return None;
+    }
     Some((from, to, amount))
 }
 
