@@ -1,6 +1,6 @@
 //! A run of a crew, from its slots to what it prints.
 
-ghost use Rattle.std.specs.Prelude.{◌≡◌, ◌*◌, ◌⊎◌, ℕ, List, IfOk, IfErr, OnOk, length, map, sum_by};
+ghost use Rattle.std.specs.Prelude.{◌≡◌, ◌+◌, ◌*◌, ◌⊎◌, ℕ, List, IfOk, IfErr, OnOk, length, map, sum_by};
 ghost use Rattle.std.specs.Io.KnownBytes.{Appends};
 ghost use Rattle.std.specs.List.{range_with_len};
 ghost use Rattle.fst_types.specs.Bytes.{bytes_of};
@@ -34,6 +34,8 @@ use std::thread::Threads;
 pub fn closed<S: BlockSlot>(desk: Desk<S>, shares: Vec<Share>) -> Result<Totals<S>, CrewFault>
     ensures made { IfOk result (λ totals. totals.made ≡ sum_by (λ share. share) shares.items) }
     ensures refused { IfErr result (λ told. (fault : Fault) × (told ≡ CrewFault.Cache fault) × IsCloseRefused desk shares.items fault) }
+    ensures sent { IfOk result (λ totals. (totals.sent ≡ totals.landed + totals.stalled) × (totals.landed ≡ desk.landed) × (totals.stalled ≡ desk.stalled)) }
+    ensures cache { IfOk result (λ totals. totals.cache ≡ desk.cache) }
 {
     match desk.close(shares) {
         Ok(totals) => Ok(totals),

@@ -1,6 +1,6 @@
 -- Steps of a session.
-use Rattle.std.proofs.Common.{◌≡◌, ℕ, ◌<◌, List, [], ◌∷◌, ◌++◌, Option, Result, Ok, Err, sym, ap, ◌∙◌, subst, append_assoc, append-nil, length, take, IsErrAnd}
-use Rattle.std.specs.Io.KnownBytes.{Appends, Consumes, Keeps}
+use Rattle.std.proofs.Common.{◌≡◌, ℕ, ◌<◌, List, [], ◌∷◌, ◌++◌, Option, Result, Ok, Err, refl, sym, ap, ◌∙◌, subst, inl, inr, append_assoc, append-nil, length, take, IsErrAnd}
+use Rattle.std.specs.Io.KnownBytes.{Appends, Consumes, IsAtEnd, Keeps}
 use Rattle.std.proofs.KnownBytes.{Appends-kept, Appends-nil, Appends-trans, Consumes-trans}
 use Rattle.fst_types.specs.declared.shape.Shape.{Shape}
 use Rattle.fst_player.specs.Play.{Plays}
@@ -164,25 +164,18 @@ Feeds-err Q s t p a b (Err x) e h = h
 pub from_opened : (shape : Shape) (first : PlayerState) (given sent : List ℕ) (s : Session) → first ≡ opened shape → IsAt first given sent s → IsAt (opened shape) given sent s
 from_opened shape first given sent s fresh at = subst (λ (p : PlayerState). IsAt p given sent s) fresh at
 
--- the writer stopped: what was taken begins the replies to all lines
-pub stopped_plays : (T : Type 0) (shape : Shape) (given sent : List ℕ) (a b c : Option (List ℕ)) → Appends a b sent → StopsIn (opened shape) given sent b c → (taken : List ℕ) × Appends a c taken × Plays {T = T} shape given taken (Err Write)
-stopped_plays T shape given sent a b c p stop =
-    let tail = Run-total stop.last (last_line (parted given).rest) in (
-      sent ++ stop.part,
-      Appends-trans a b c _ _ p stop.taken,
-      (
-        stop.full ++ tail.0,
-        stop.more ++ tail.0,
-        tail.1,
-        Run-append (opened shape) stop.last tail.1 (parted given).ended (last_line (parted given).rest) stop.full tail.0 stop.run tail.2,
-        sym (append_assoc (sent ++ stop.part) stop.more tail.0) ∙ ap (λ (x : List ℕ). x ++ tail.0) (append_assoc sent stop.part stop.more ∙ stop.is_beginning),
-      ),
-    )
+-- the writer stopped: what was taken begins the replies to the lines that ended
+pub stopped_plays : (T : Type 0) (shape : Shape) (given sent : List ℕ) (left a b c : Option (List ℕ)) → Appends a b sent → StopsIn (opened shape) given sent b c → (taken : List ℕ) × Appends a c taken × Plays {T = T} shape given left taken (Err Write)
+stopped_plays T shape given sent left a b c p stop = (
+  sent ++ stop.part,
+  Appends-trans a b c _ _ p stop.taken,
+  ((parted given).ended, inl refl, stop.full, stop.more, stop.last, stop.run, append_assoc sent stop.part stop.more ∙ stop.is_beginning),
+)
 
--- the same within the last line
-pub unfinished_plays : (T : Type 0) (shape : Shape) (given sent part more : List ℕ) (last : PlayerState) (a b c : Option (List ℕ)) → Appends a b sent → Appends b c part → IsScriptRun (opened shape) (lines given) (sent ++ (part ++ more)) last → (taken : List ℕ) × Appends a c taken × Plays {T = T} shape given taken (Err Write)
-unfinished_plays T shape given sent part more last a b c p q run =
-    (sent ++ part, Appends-trans a b c _ _ p q, (sent ++ (part ++ more), more, last, run, append_assoc sent part more))
+-- the same within the last line, which has no end
+pub unfinished_plays : (T : Type 0) (shape : Shape) (given sent part more : List ℕ) (last : PlayerState) (left a b c : Option (List ℕ)) → IsAtEnd left → Appends a b sent → Appends b c part → IsScriptRun (opened shape) (lines given) (sent ++ (part ++ more)) last → (taken : List ℕ) × Appends a c taken × Plays {T = T} shape given left taken (Err Write)
+unfinished_plays T shape given sent part more last left a b c end p q run =
+    (sent ++ part, Appends-trans a b c _ _ p q, (lines given, inr (refl, end), sent ++ (part ++ more), more, last, run, append_assoc sent part more))
 
 -- a read of no bytes
 pub Consumes-none : (a b c : Option (List ℕ)) (given piece : List ℕ) (n : ℕ) → n ≡ 0 → Consumes a b given → Consumes b c (take n piece) → Consumes a c given

@@ -37,7 +37,7 @@ fn play_on<R: Read, W: Write>(
     ensures played { (shape : Shape) → session.old.player ≡ opened shape → (given : List ℕ) × (sent : List ℕ)
         × Consumes (R.remaining reader.old) (R.remaining reader.new) given
         × Appends (W.contents writer.old) (W.contents writer.new) sent
-        × Plays shape given sent result }
+        × Plays shape given (R.remaining reader.new) sent result }
     ensures end { OnOk result (IsAtEnd (R.remaining reader.new)) }
 {
     let mut calls = u64::MAX;
@@ -75,7 +75,7 @@ pub fn play<R: Read, W: Write>(
     ensures played { (given : List ℕ) × (sent : List ℕ)
         × Consumes (R.remaining reader.old) (R.remaining reader.new) given
         × Appends (W.contents writer.old) (W.contents writer.new) sent
-        × Plays shape given sent result }
+        × Plays shape given (R.remaining reader.new) sent result }
     ensures end { OnOk result (IsAtEnd (R.remaining reader.new)) }
 {
     match Player::new(alloc, shape) {

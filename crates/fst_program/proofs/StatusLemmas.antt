@@ -4,25 +4,15 @@ use Rattle.std.proofs.lemmas.Bool.{false≢true}
 use Rattle.clap.specs.declared.error.Error.{Error}
 use Rattle.clap.specs.declared.error.kind.ErrorKind.TheVariants.{DisplayHelp, OutOfMemory}
 use Rattle.clap.specs.Words.{HasKind, Text, fault_of, kind_of}
-use Rattle.fst_types.specs.declared.shape.Shape.{Shape}
 use Rattle.fst_crew.specs.Crewing.{told}
 use Rattle.fst_program.specs.Arguments.{Asks}
-use Rattle.fst_player.specs.Play.{Plays}
 use Rattle.fst_program.specs.Program.{program}
-use Rattle.fst_player.specs.Script.{PlayerState, opened, IsScriptRun}
-use Rattle.fst_player.specs.Stream.{lines}
 use Rattle.fst_program.specs.declared.arguments.Run.{Run}
-use Rattle.fst_player.specs.declared.play.PlayFault.{PlayFault}
 use Rattle.fst_program.specs.Status.{AreRefused}
 
 pub fault_found : (words : List Text) (e : Error) → HasKind (fault_of program words) e → kind_of e ≢ DisplayHelp → kind_of e ≢ OutOfMemory → AreRefused words
 fault_found words e (inl memory) no_help no_memory = absurd (no_memory memory)
 fault_found words e (inr among) no_help no_memory = inl (kind_of e, among, no_help)
-
--- a play without a fault has answered all lines
-pub played_on : {T : Type 0} (shape : Shape) (given sent : List ℕ) (r : Result T PlayFault) → IsOk r → Plays shape given sent r → (last : PlayerState) × IsScriptRun (opened shape) (lines given) sent last
-played_on shape given sent (Ok u) ok run = run
-played_on shape given sent (Err f) ok run = absurd (false≢true ok)
 
 pub same_told : (files files' rounds rounds' : ℕ) (blocks : List (List ℕ)) → files ≡ files' → rounds ≡ rounds' → told (files * rounds) blocks ≡ told (files' * rounds') blocks
 same_told files files' rounds rounds' blocks f r = rw (f, r) refl

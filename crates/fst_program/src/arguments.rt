@@ -30,7 +30,7 @@ const FILES_HELP: &str = "How many threads change blocks: 1 to 8";
 
 const WORKERS_HELP: &str = "How many threads write blocks: 1 to 8";
 
-const ROUNDS_HELP: &str = "How many changes each thread makes that changes blocks: 1 to 1000";
+const ROUNDS_HELP: &str = "How many changes each file thread makes: 1 to 1000";
 
 /// What the program is asked to do.
 #[derive(Debug, Drop)]

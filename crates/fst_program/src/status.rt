@@ -5,7 +5,7 @@
 
 ghost use Rattle.std.specs.Prelude.{◌≡◌, ◌≢◌, ◌≤◌, ◌⊎◌, ℕ, List, Option, map};
 ghost use Rattle.fst_program.specs.Arguments.{Asks};
-ghost use Rattle.fst_program.specs.Status.{AreRefused, AsksHelp, IsInRange, Ran};
+ghost use Rattle.fst_program.specs.Status.{AreRefused, AsksHelp, IsInRange, Ran, RanNothing, WasStopped};
 ghost use Rattle.fst_program.specs.declared.arguments.Run.{Run};
 ghost use Rattle.clap.specs.Words.{kind_of};
 
@@ -56,16 +56,19 @@ fn plays<I: Read, O: Write, E: Write>(
 ) -> u8
     ensures done { result ≡ 0 → Ran (Run.Play blocks size resident) (I.remaining reader.old) (I.remaining reader.new) (O.contents out.old) (O.contents out.new) }
     ensures refused { result ≡ 2 → (IsInRange (Run.Play blocks size resident) → ⊥) × (I.remaining reader.new ≡ I.remaining reader.old) × (O.contents out.new ≡ O.contents out.old) }
+    ensures stopped { result ≡ 1 → WasStopped (Run.Play blocks size resident) (I.remaining reader.old) (I.remaining reader.new) (O.contents out.old) (O.contents out.new) }
     ensures known { result ≤ 2 }
 {
     let Ok(shape) = Shape::new(blocks, size, resident.unwrap_or(blocks)) else {
         return refused(err);
     };
-    let played = play(alloc, reader, out, shape);
-    if played.is_ok() && out.flush().is_ok() {
-        return DONE;
+    match play(alloc, reader, out, shape) {
+        Ok(()) => match out.flush() {
+            Ok(()) => DONE,
+            Err(_) => stopped(err),
+        },
+        Err(_) => stopped(err),
     }
-    stopped(err)
 }
 
 // Runs a crew over zero blocks in memory.
@@ -99,6 +102,7 @@ fn crews<R: Threads + Wait + Sync, O: Write, E: Write>(
 fn tell<O: Write, E: Write>(error: &Error, out: &mut O, err: &mut E) -> u8
     ensures done { result ≡ 0 → kind_of error.now ≡ ErrorKind.DisplayHelp }
     ensures refused { result ≡ 2 → (kind_of error.now ≢ ErrorKind.DisplayHelp) × (kind_of error.now ≢ ErrorKind.OutOfMemory) × (O.contents out.new ≡ O.contents out.old) }
+    ensures stopped { result ≡ 1 → (kind_of error.now ≡ ErrorKind.DisplayHelp) ⊎ (O.contents out.new ≡ O.contents out.old) }
     ensures known { result ≤ 2 }
 {
     match error.kind() {
@@ -126,8 +130,9 @@ pub fn carry_out<R: Threads + Wait + Sync, I: Read, O: Write, E: Write>(
     out: &mut O,
     err: &mut E,
 ) -> u8
-    ensures done { result ≡ 0 → ((run : Run) × Asks (map (λ w. w.now) words.now) run × Ran run (I.remaining reader.old) (I.remaining reader.new) (O.contents out.old) (O.contents out.new)) ⊎ AsksHelp (map (λ w. w.now) words.now) }
+    ensures done { result ≡ 0 → ((run : Run) × Asks (map (λ w. w.now) words.now) run × Ran run (I.remaining reader.old) (I.remaining reader.new) (O.contents out.old) (O.contents out.new)) ⊎ (AsksHelp (map (λ w. w.now) words.now) × (I.remaining reader.new ≡ I.remaining reader.old)) }
     ensures refused { result ≡ 2 → AreRefused (map (λ w. w.now) words.now) × (I.remaining reader.new ≡ I.remaining reader.old) × (O.contents out.new ≡ O.contents out.old) }
+    ensures stopped { result ≡ 1 → ((run : Run) × Asks (map (λ w. w.now) words.now) run × WasStopped run (I.remaining reader.old) (I.remaining reader.new) (O.contents out.old) (O.contents out.new)) ⊎ RanNothing (map (λ w. w.now) words.now) (I.remaining reader.old) (I.remaining reader.new) (O.contents out.old) (O.contents out.new) }
     ensures known { result ≤ 2 }
 {
     match args(alloc, words) {

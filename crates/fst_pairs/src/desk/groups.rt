@@ -1,10 +1,11 @@
 //! The cache's calls on groups.
 
-ghost use Rattle.std.specs.Prelude.{◌≡◌, ◌+◌, OnErr, MatchResult, slice_index, slice_set};
+ghost use Rattle.std.specs.Prelude.{◌≡◌, ◌+◌, IsErrOf, OnErr, MatchResult, slice_index, slice_set};
 ghost use Rattle.fst_types.specs.Residence.{faults_rose};
 ghost use Rattle.fst_types.specs.Events.{GroupNew, GroupAfter, GroupPatch, GroupClose, MadeChange, Made, Accepted, Refused};
 ghost use Rattle.fst_types.specs.Step.{Step};
 ghost use Rattle.fst_cache.specs.Views.{IsSameBeside};
+ghost use Rattle.fst_pairs.specs.Desking.{IsOneReadFailed};
 
 use crate::desk::Desk;
 use fst_cache::Share;
@@ -35,8 +36,8 @@ impl<S: BlockSlot, A: Allocator> Desk<S, A> {
     /// before all of the other's, which is closed by then.
     ///
     /// Refused, in this order, as `NoPatch` where one of the two is no group, `Sealed` where the group is closed,
-    /// `GroupBegun` where it has a change, `Cycle` where the other one is it or comes after it, or `Memory`, for what its
-    /// head depends on. A refusal changes nothing.
+    /// `GroupBegun` where it has a change, `Cycle` where the other's tail depends on its head, as it does where both are
+    /// the same group, or `Memory`, for what its head depends on. A refusal changes nothing.
     pub fn group_after(&mut self, group: GroupNo, on: GroupNo) -> Result<(), Fault>
         ensures step { MatchResult result
             (λ u. Step self.old.cache.state (GroupAfter group.0 on.0) Accepted self.new.cache.state)
@@ -55,7 +56,8 @@ impl<S: BlockSlot, A: Allocator> Desk<S, A> {
     /// `Full(Resident)`, `NoPatch` where there is no such group, `Sealed` where it is closed, `Cycle` where the change
     /// overlaps one that comes after the group, `Full(Heads)`, `Full(Numbers)`, then `Device` where the block had to be
     /// read and could not, or `Memory`. A refusal leaves the state and the share as they were; the block may have come
-    /// into memory, and a clean one may have left.
+    /// into memory, and a clean one may have left. The slot's count of faults rises by one where the answer is `Device`,
+    /// and else not.
     pub fn group_patch(
         &mut self,
         share: &mut Share,
@@ -69,6 +71,8 @@ impl<S: BlockSlot, A: Allocator> Desk<S, A> {
             (λ fault. Step self.old.cache.state (GroupPatch share.old group.0 block.0 at bytes.now (faults_rose self.old.cache.faults self.new.cache.faults block.0)) (Refused fault) self.new.cache.state) }
         ensures share { MatchResult result (λ made. share.new ≡ share.old + 1) (λ fault. share.new ≡ share.old) }
         ensures faults { self.new.cache.faults ≡ slice_set self.old.cache.faults block.0 (slice_index self.new.cache.faults block.0) }
+        ensures one_fault { IsOneReadFailed self.old.cache block.0 self.new.cache }
+        ensures no_fault { (IsErrOf result Fault.Device → ⊥) → self.new.cache.faults ≡ self.old.cache.faults }
         ensures homes { self.new.cache.homes ≡ self.old.cache.homes }
         ensures back { self.new.cache.back ≡ self.old.cache.back }
         ensures lanes { self.new ≡ record self.old { cache = self.new.cache } }

@@ -4,7 +4,7 @@ mod stopped;
 
 use crate::list::push;
 use crate::same::{same, same_text, starts_with};
-use crate::slots::zero_slots;
+use crate::slots::{zero_slot, zero_slots};
 use crate::stopping::{NoRoom, with_room};
 use crate::workers::failing::{Begun, Failing, Habit};
 use fst_crew::plan::Crew;
@@ -139,6 +139,19 @@ fn lost_block(rt: HostRuntime) {
     let slots = failing_slots(&rt, rt.alloc(), Habit::AlwaysBefore, Habit::Never);
     let ended = ran(&rt, rt.alloc(), slots, 2, 2, 10);
     is_refused(&rt, &ended, Fault::Lost);
+}
+
+// A file thread's second change comes after its first: where the first one's block is lost, the second one's is never
+// written.
+#[test]
+fn next_change_waits(rt: HostRuntime) {
+    let begun = Arc::new(rt.alloc(), AtomicU64::new(0)).expect(&rt, "there is memory");
+    let mut slots = meeting_slots(&rt, rt.alloc(), &begun);
+    let first = slots.first_mut().expect(&rt, "there are slots");
+    *first = Failing::new(zero_slot(&rt, rt.alloc(), 0, 8), Habit::AlwaysBefore);
+    let ended = ran(&rt, rt.alloc(), slots, 1, 1, 2);
+    is_refused(&rt, &ended, Fault::Lost);
+    same(&rt, &begun.load(Ordering::SeqCst), &0);
 }
 
 // Slots of zeros, of which the first fails at its first read.
