@@ -1,6 +1,7 @@
 """Frames as text and as SVG. Every arrow goes up from a patch to what it comes after, through the gaps between boxes."""
 
 import json
+import re
 from html import escape
 
 FILLS = {"memory": "#fff3c4", "flight": "#bcd9f7", "disk": "#cfe8cf"}
@@ -99,7 +100,7 @@ class Drawing:
         return 5 * taken
 
     def text(self, x, y, text, size=13, colour=INK, more=""):
-        self.parts.append(f'<text x="{x:g}" y="{y:g}" font-size="{size}" fill="{colour}" {more}>{escape(text)}</text>')
+        self.parts.append(f'<text x="{x:g}" y="{y:g}" font-size="{size}" fill="{colour}" {more}>{escape(drawable(text))}</text>')
 
     def box(self, x, y, wide, high, fill, edge, more):
         self.parts.append(f'<rect x="{x:g}" y="{y:g}" width="{wide:g}" height="{high:g}" fill="{fill}" stroke="{edge}" {more}/>')
@@ -175,8 +176,13 @@ def plainly(line):
         words = json.loads(line)
         rest = [f"{name} {','.join(map(str, it)) if isinstance(it, list) else it}" for name, it in words.items() if name != "do"]
         return " ".join([str(words["do"]), *rest])
-    except (ValueError, KeyError, AttributeError):
+    except (ValueError, KeyError, AttributeError, RecursionError):
         return line
+
+
+def drawable(text):
+    """A text with a sign in the place of each character that XML does not have."""
+    return re.sub("[^\t\x20-\ud7ff\ue000-\ufffd\U00010000-\U0010ffff]", "\ufffd", text)
 
 
 def short(hex_bytes):
