@@ -1,1 +1,2 @@
 mod ReportLemmas
+mod Misfits

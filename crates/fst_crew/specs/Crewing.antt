@@ -1,6 +1,9 @@
 -- A crew's plan, and what it prints.
 use Rattle.std.specs.Prelude.{◌≤◌, ◌+◌, ℕ, List, [], ◌∷◌, ◌++◌, codes, decimal}
 use Rattle.hex.specs.Hex.{encode_lower}
+use Rattle.fst_types.specs.declared.fault.Fault.{Fault}
+use Rattle.fst_types.specs.Order.{open_order}
+use Rattle.fst_types.specs.Refusals.{IsFirst}
 
 -- 1 to 8 threads of each kind, and 1 to 1,000 rounds
 pub record IsCrew (files workers rounds : ℕ) : Type 0 where
@@ -10,6 +13,10 @@ pub record IsCrew (files workers rounds : ℕ) : Type 0 where
   pub few_workers : workers ≤ 8
   pub some_rounds : 1 ≤ rounds
   pub few_rounds : rounds ≤ 1000
+
+-- slots with these places and sizes are not the eight of eight bytes that a crew works over; the fault says why
+abbrev pub AreMisfits : (indices sizes : List ℕ) → Fault → Type 0
+AreMisfits indices sizes fault = IsFirst (open_order 8 8 indices sizes) fault
 
 abbrev pub made_line : ℕ → List ℕ
 made_line n = codes "made " ++ decimal n ++ 10 ∷ []

@@ -1,10 +1,10 @@
 //! A run of a crew, from its slots to what it prints.
 
-ghost use Rattle.std.specs.Prelude.{◌≡◌, ◌+◌, ◌*◌, ◌⊎◌, ℕ, List, IfOk, IfErr, OnOk, length, map, sum_by};
+ghost use Rattle.std.specs.Prelude.{◌≡◌, ◌+◌, ◌*◌, ◌⊎◌, ℕ, List, IfOk, IfErr, IsErrOf, OnOk, length, map, sum_by};
 ghost use Rattle.std.specs.Io.KnownBytes.{Appends};
 ghost use Rattle.std.specs.List.{range_with_len};
 ghost use Rattle.fst_types.specs.Bytes.{bytes_of};
-ghost use Rattle.fst_crew.specs.Crewing.{told};
+ghost use Rattle.fst_crew.specs.Crewing.{AreMisfits, told};
 ghost use Rattle.fst_types.specs.declared.fault.Fault.{Fault};
 ghost use Rattle.fst_pairs.specs.Desking.{IsCloseRefused};
 ghost use Rattle.fst_crew.specs.declared.fault.CrewFault.{CrewFault};
@@ -48,7 +48,9 @@ fn opened<S: BlockSlot>(
     alloc: Global,
     slots: Vec<S>,
     workers: u32,
-) -> Result<(Desk<S>, Vec<Worker<S>>), CrewFault> {
+) -> Result<(Desk<S>, Vec<Worker<S>>), CrewFault>
+    ensures misfits { (fault : Fault) → AreMisfits (map S.index slots.items) (map S.size slots.items) fault → IsErrOf result (CrewFault.Cache fault) }
+{
     let Ok(shape) = Shape::new(CREW_BLOCKS, CREW_BLOCKS, CREW_BLOCKS) else {
         unreachable!()
     };
@@ -70,7 +72,8 @@ fn worked<S: BlockSlot + Send, R: Threads + Wait + Sync>(
     plan: Crew,
     stacks: Stacks<'_>,
 ) -> Result<Totals<S>, CrewFault>
-    ensures { IfOk result (λ totals. totals.made ≡ plan.files * plan.rounds) }
+    ensures made { IfOk result (λ totals. totals.made ≡ plan.files * plan.rounds) }
+    ensures misfits { (fault : Fault) → AreMisfits (map S.index slots.items) (map S.size slots.items) fault → IsErrOf result (CrewFault.Cache fault) }
 {
     let (desk, workers) = opened(alloc, slots, plan.workers)?;
     let shop = Shop::new(desk, stacks);
@@ -115,6 +118,7 @@ pub fn crew<S: BlockSlot + Send, R: Threads + Wait + Sync, W: Write>(
     ensures made { OnOk result ((blocks : List (List ℕ)) × (length blocks ≡ 8)
         × Appends (W.contents writer.old) (W.contents writer.new) (told (plan.files * plan.rounds) blocks)) }
     ensures silent { IfErr result (λ fault. (fault ≡ CrewFault.Write) ⊎ (W.contents writer.new ≡ W.contents writer.old)) }
+    ensures misfits { (fault : Fault) → AreMisfits (map S.index slots.items) (map S.size slots.items) fault → IsErrOf result (CrewFault.Cache fault) }
 {
     crew_on(rt, alloc, slots, plan, USUAL, writer)
 }
@@ -131,6 +135,7 @@ pub fn crew_on<S: BlockSlot + Send, R: Threads + Wait + Sync, W: Write>(
     ensures made { OnOk result ((blocks : List (List ℕ)) × (length blocks ≡ 8)
         × Appends (W.contents writer.old) (W.contents writer.new) (told (plan.files * plan.rounds) blocks)) }
     ensures silent { IfErr result (λ fault. (fault ≡ CrewFault.Write) ⊎ (W.contents writer.new ≡ W.contents writer.old)) }
+    ensures misfits { (fault : Fault) → AreMisfits (map S.index slots.items) (map S.size slots.items) fault → IsErrOf result (CrewFault.Cache fault) }
 {
     let mut totals = worked(rt, alloc, slots, plan, stacks)?;
     tell(alloc, &mut totals, writer)
