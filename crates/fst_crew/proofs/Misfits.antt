@@ -15,7 +15,7 @@ pub fitting : (blocks size : ℕ) (indices sizes : List ℕ) (f : Fault) → blo
 fitting blocks size indices sizes f eight long none =
     none_misfits indices sizes f (subst (λ n. NoneHolds (open_order 8 n indices sizes)) long (subst (λ n. NoneHolds (open_order n size indices sizes)) eight none))
 
--- `?` passes the fault on
+-- a fault goes on as it is
 pub passed_on : {T U E : Type 0} (r : Result T E) (e f : E) → IsErrAnd r (λ x. x ≡ e) → IsErrOf {T = U} (Err e) f → IsErrOf r f
 passed_on (Ok u) e f passes of = absurd passes
 passed_on (Err x) e f passes of = cc
