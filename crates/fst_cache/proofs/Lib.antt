@@ -12,6 +12,7 @@ mod MakeStep
 mod MakeWhole
 mod OpenPlaced
 mod Opened
+mod ResideBringing
 mod ResideDirty
 mod ResideLoading
 mod ResideLooking

@@ -14,6 +14,7 @@ use Rattle.fst_seat.specs.Seats.{SeatView, blocks, is_dirty_seat, undo_of}
 use Rattle.fst_seat.specs.Residing.{count_loaded, IsReadOf, IsCleanAt, MakesPlace, Loads, MayLoad}
 use Rattle.fst_cache.specs.declared.cache.Cache.TheInside.{Inside}
 use Rattle.fst_cache.specs.Kept.{IsKept, IsKeptSeat, state_of, view_of}
+use Rattle.fst_seat.proofs.Loading.{away_read}
 use Rattle.fst_seat.proofs.Seated.{get-set, listed_new, listed_set, same_listed}
 use Rattle.fst_seat.proofs.Undo.{undo_same, undo_clean}
 use Rattle.fst_cache.proofs.ResideSeats.{clean, clean_view, dirty_is}
@@ -171,7 +172,7 @@ loads_keeps i K b new L =
     let now = listed_new L.placed b L.seat L.at (λ (t : SeatView). t.faults) 0 after in
     subst (Loaded i b) (sym L.seats)
     (record {
-      kept = filled (with_seats i L.placed) P.kept b L.seat L.at L.loaded L.faults L.away L.read P.free;
+      kept = filled (with_seats i L.placed) P.kept b L.seat L.at L.loaded L.faults (away_read L) L.read P.free;
       blocks = same_listed L.placed b L.seat L.at (λ (t : SeatView). t.block) after refl ∙ P.blocks;
       faults = listed ∙ (ap (λ xs. slice_set xs b L.faults) P.faults ∙ ap (slice_set (map (λ (t : SeatView). t.faults) i.seats.seats) b) (sym now));
       homes = same_listed L.placed b L.seat L.at (λ (t : SeatView). t.home) after refl ∙ P.homes;
@@ -206,4 +207,4 @@ view_unloaded i b seat at_b new is =
 
 -- a block that is loaded is not dirty
 pub loads_clean : {Slot : Type 0} (i : Inside Slot) → IsKept i → (b : ℕ) (new : List SeatView) → Loads i.seats.most i.seats.seats b new → is_dirty i.graph.heads b ≡ false
-loads_clean i K b new L = clean (with_seats i L.placed) (placed_by i K L.placed L.place).kept b L.seat L.at L.away
+loads_clean i K b new L = clean (with_seats i L.placed) (placed_by i K L.placed L.place).kept b L.seat L.at (away_read L)

@@ -19,12 +19,20 @@ use Rattle.fst_cache.proofs.ResideLoading.{loads_clean}
 same_fault : {T : Type 0} {f g : Fault} → ◌≡◌ {A = Result T Fault} (Err f) (Err g) → f ≡ g
 same_fault e = cc
 
--- a load is refused for want of memory, or by the device, whose faults rose
+-- a load is refused by the device, or for want of memory
+pub load_kind : {T : Type 0} (r : Result T Fault) (f : Fault) → r ≡ Err f → (IsErr r → IsErrOf r fault.Device ⊎ IsErrOf r fault.Memory) → (f ≡ fault.Device) ⊎ (f ≡ fault.Memory)
+load_kind r f is kinds =
+    elim (kinds (subst IsErr (sym is) refl)) [
+      | inl by_device ↦ inl (same_fault (sym is ∙ by_device))
+      | inr memory ↦ inr (same_fault (sym is ∙ memory))
+    ]
+
+-- whose faults rose where it was the device
 pub load_fault : {T : Type 0} (r : Result T Fault) (f : Fault) (rose : Bool) → r ≡ Err f → (IsErr r → IsErrOf r fault.Device ⊎ IsErrOf r fault.Memory) → (IsErrOf r fault.Device → rose ≡ true) → IsLoadFault rose f
 load_fault r f rose is kinds device =
-    elim (kinds (subst IsErr (sym is) refl)) [
-      | inl by_device ↦ inr (same_fault (sym is ∙ by_device), device by_device)
-      | inr memory ↦ inl (same_fault (sym is ∙ memory))
+    elim (load_kind r f is kinds) [
+      | inl by_device ↦ inr (by_device, device (is ∙ ap (λ (x : Fault). Err x) by_device))
+      | inr memory ↦ inl memory
     ]
 
 -- a call that answers with another's fault answers Device where that does

@@ -1,5 +1,6 @@
 pub mod Counts
 pub mod Exchanging
+pub mod Loading
 pub mod Putting
 pub mod Seated
 pub mod Undo
@@ -7,4 +8,3 @@ mod Dirty
 mod Flying
 mod InStep
 mod Listing
-mod Loading

@@ -4,11 +4,10 @@ use Rattle.std.specs.Prelude.{slice_index}
 use Rattle.std.proofs.lemmas.Bool.{cases_Bool, false≢true, lt-ltb}
 use Rattle.std.proofs.lemmas.Option.{get_or_from_slice_get, same_Some}
 use Rattle.fst_types.specs.State.{Flight}
-use Rattle.fst_types.specs.Residence.{faults_rose}
+use Rattle.fst_types.specs.Residence.{faults_rose, IsOneFaultMore}
 use Rattle.fst_block.specs.BlockView.{BlockView}
 use Rattle.fst_seat.specs.Seats.{SeatView, is_dirty_with, is_dirty_seat}
-use Rattle.fst_seat.specs.Faults.{IsOneFaultMore}
-use Rattle.fst_seat.specs.Residing.{count_loaded, IsCleanLoaded, IsCleanAt, MakesPlace, Loads, IsLoadedAt}
+use Rattle.fst_seat.specs.Residing.{count_loaded, IsCleanLoaded, IsCleanAt, MakesPlace, Loads, IsLoadedAt, IsAwayAt}
 use Rattle.fst_seat.proofs.Seated.{get-set, set_here, listed, listed_new, listed_set, same_listed}
 use Rattle.fst_seat.proofs.Counts.{count_le}
 
@@ -51,11 +50,18 @@ module _ (resident : ℕ) (old placed : List SeatView) (b : ℕ) (seat : SeatVie
         | inr other ↦ inl other.1
       ]
 
+  was_away : IsAwayAt old b → MakesPlace resident old placed → seat.loaded ≡ None
+  was_away absent made = elim (stays_or_leaves made) [ inl stays ↦ absent seat stays | inr leaves ↦ leaves ]
+
   pub away_placed : MakesPlace resident old placed → (was : SeatView) → slice_get old b ≡ Some was → is_some was.loaded ≡ false → seat.loaded ≡ None
   away_placed made was at_old away = elim (stays_or_leaves made) [
     | inl stays ↦ none_of seat.loaded (ap (λ (t : SeatView). is_some t.loaded) (same_Some seat was (sym stays ∙ at_old)) ∙ away)
     | inr leaves ↦ leaves
   ]
+
+-- a block that is read was not in memory, after the place was made either
+pub away_read : {resident : ℕ} {old new : List SeatView} {b : ℕ} (L : Loads resident old b new) → L.seat.loaded ≡ None
+away_read {resident} {old} {new} {b} L = was_away resident old L.placed b L.seat L.at L.away L.place
 
 pub faults_placed : (resident : ℕ) (old placed : List SeatView) → MakesPlace resident old placed → map (λ (t : SeatView). t.faults) placed ≡ map (λ (t : SeatView). t.faults) old
 faults_placed resident old placed (inl h) = ap (map (λ (t : SeatView). t.faults)) h.1
@@ -73,11 +79,11 @@ module _ (resident : ℕ) (old placed : List SeatView) (made : MakesPlace reside
       → (new.loaded ≡ seat.loaded) ⊎ ((seat.loaded ≡ None) × (new.loaded ≡ Some (record { base = seat.block.committed; patches = [] })))
       → Loads resident old b (slice_set placed b new)
   loads_by same either = record {
+    away = λ other at_other. none_of other.loaded (ap (λ (t : SeatView). is_some t.loaded) (same_Some other was (sym at_other ∙ at_old)) ∙ away);
     placed = placed;
     place = made;
     seat = seat;
     at = at_b;
-    away = none;
     loaded = new.loaded;
     faults = new.faults;
     read = elim either [ inl as_was ↦ inl (as_was ∙ none) | inr is_read ↦ inr is_read.1 ];
@@ -94,6 +100,10 @@ module _ (resident : ℕ) (old placed : List SeatView) (made : MakesPlace reside
     at = set_here placed b seat at_b new;
     there = there;
   }
+
+  -- or it is away
+  pub away_by : new.loaded ≡ None → IsAwayAt (slice_set placed b new) b
+  away_by none other at_other = ap (λ (t : SeatView). t.loaded) (same_Some other new (sym at_other ∙ set_here placed b seat at_b new)) ∙ none
 
   -- its slot's faults rose
   pub rose_by : seat.faults < new.faults → faults_rose (map (λ (t : SeatView). t.faults) old) (map (λ (t : SeatView). t.faults) (slice_set placed b new)) b ≡ true

@@ -5,12 +5,11 @@ use Rattle.std.proofs.lemmas.Bool.{false≢true}
 use Rattle.std.proofs.lemmas.List.Elements.{All-nil}
 use Rattle.fst_types.specs.declared.fault.Fault.{Fault}
 use Rattle.fst_types.specs.declared.fault.Fault.TheVariants as fault
+use Rattle.fst_types.specs.Residence.{IsOneFaultMore}
 use Rattle.fst_types.specs.State.{BlockState}
 use Rattle.fst_block.specs.BlockView.{BlockPatch, BlockView}
 use Rattle.fst_seat.specs.Seats.{SeatView}
-use Rattle.fst_seat.specs.Residing.{IsReadOf, MakesPlace}
-use Rattle.fst_seat.specs.Residing.{MayLoad, Puts}
-use Rattle.fst_seat.specs.Faults.{IsOneFaultMore}
+use Rattle.fst_seat.specs.Residing.{IsReadOf, MakesPlace, MayLoad, Puts}
 use Rattle.fst_seat.proofs.Seated.{get-set, same_seat}
 
 -- what a call did that refused
@@ -26,6 +25,17 @@ memory_kind (Err f) only e = inr (ap (λ (x : Fault). Err x) only)
 -- what answers Ok has no fault
 pub not_failed : {T : Type 0} {x : T} {f : Fault} → ◌≡◌ {A = Result T Fault} (Ok x) (Err f) → ⊥
 not_failed e = cc
+
+-- a fault that is want of memory alone is not the device's
+pub not_device : {T : Type 0} (r : Result T Fault) → IfErr r (λ f. f ≡ fault.Memory) → IsErrOf r fault.Device → ⊥
+not_device (Ok x) only e = not_failed e
+not_device (Err f) only e = another (same_error e) only
+  where
+    same_error : {T : Type 0} {g h : Fault} → ◌≡◌ {A = Result T Fault} (Err g) (Err h) → g ≡ h
+    same_error e = cc
+
+    another : {g : Fault} → g ≡ fault.Device → g ≡ fault.Memory → ⊥
+    another a b = cc
 
 -- the same block, with the patches that it had or none
 record IsOfSeat (old new : SeatView) : Type 0 where

@@ -10,6 +10,7 @@ use Rattle.fst_types.specs.declared.number.PatchNo.{PatchNo}
 use Rattle.fst_block.specs.BlockView.{BlockPatch, BlockView, len_if_soft, soft_lengths}
 use Rattle.fst_block.specs.Choices.{is_chosen, others_of}
 use Rattle.fst_seat.specs.Seats.{SeatView, undo_of, has_patches, is_dirty_with, is_dirty_seat, seats_of}
+use Rattle.fst_seat.proofs.Loading.{away_read}
 use Rattle.fst_seat.specs.Residing.{IsReadOf, MakesPlace}
 use Rattle.fst_seat.specs.Residing.{MayLoad, Puts}
 
@@ -56,7 +57,7 @@ pub undo_load : (resident : ℕ) (old : List SeatView) (b : ℕ) (new : List Sea
 undo_load resident old b new (inl h) = ap (sum_by undo_of) h.1
 undo_load resident old b new (inr L) =
     let read = undo_read L.seat L.loaded L.read in
-    let away = ap undo_with L.away in
+    let away = ap undo_with (away_read L) in
     ap (sum_by undo_of) L.seats
     ∙ (sym (undo_same L.placed b L.seat (record L.seat { loaded = L.loaded; faults = L.faults }) L.at (sum_by undo_of L.placed) (read ∙ sym away) refl)
     ∙ undo_placed resident old L.placed L.place)

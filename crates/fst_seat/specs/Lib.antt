@@ -2,7 +2,6 @@ pub mod Names
 pub mod Seen
 pub mod Seats
 pub mod Kept
-pub mod Faults
 pub mod Places
 pub mod Residing
 pub mod Writing

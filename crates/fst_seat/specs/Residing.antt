@@ -40,13 +40,17 @@ MakesPlace resident old new =
 abbrev pub IsReadOf : SeatView → Option BlockView → Type 0
 IsReadOf seat loaded = (loaded ≡ None) ⊎ (loaded ≡ Some (record { base = seat.block.committed; patches = [] }))
 
--- a place is made for block b, which is not in memory, and its slot is read
+-- block b is not in memory
+abbrev pub IsAwayAt : List SeatView → ℕ → Type 0
+IsAwayAt seats b = (seat : SeatView) → slice_get seats b ≡ Some seat → seat.loaded ≡ None
+
+-- block b was not in memory; a place is made for it, and its slot is read
 pub record Loads (resident : ℕ) (old : List SeatView) (b : ℕ) (new : List SeatView) : Type 0 where
+  pub away : IsAwayAt old b
   pub placed : List SeatView
   pub place : MakesPlace resident old placed
   pub seat : SeatView
   pub at : slice_get placed b ≡ Some seat
-  pub away : seat.loaded ≡ None
   pub loaded : Option BlockView
   pub faults : ℕ
   pub read : IsReadOf seat loaded

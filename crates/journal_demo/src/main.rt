@@ -11,6 +11,11 @@ use journal_parts::{StoreFault, groups, guide, keep, transfers};
 use std::process::ExitCode;
 use std::{env, io};
 
+const HELP: &str = "journal_demo         plays the guides, and transfers over slots that fail
+journal_demo FILE    keeps six accounts in the file, and makes the transfers of standard input:
+                     a line FROM TO AMOUNT each, accounts counted from 0
+";
+
 fn carry_out(rt: &HostRuntime) -> Result<(), StoreFault> {
     let words: Vec<String> = env::args(rt)?.collect(rt.alloc())?;
     match words.get(1) {
@@ -20,7 +25,14 @@ fn carry_out(rt: &HostRuntime) -> Result<(), StoreFault> {
             groups::groups(rt.alloc(), &mut out)?;
             transfers(rt.alloc(), &mut out)
         }
-        Some(name) => keep(rt, name.as_str()),
+        Some(word) => {
+            let word = word.as_str();
+            if word == "--help" || word == "-h" {
+                print!(rt; "{HELP}")?;
+                return Ok(());
+            }
+            keep(rt, word)
+        }
     }
 }
 

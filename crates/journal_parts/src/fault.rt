@@ -16,6 +16,8 @@ pub enum StoreFault {
     Stuck,
     #[error("a transfer is between two accounts, from one that has as much")]
     NoTransfer,
+    #[error("a line is a transfer: FROM TO AMOUNT, three numbers")]
+    NoLine,
     #[error("the file is no store")]
     NoStore,
 }

@@ -90,7 +90,7 @@ fn transfer_of(line: &str) -> Option<(u16, u16, u32)> {
 // Makes the transfer of a line, and tells of it once it is on disk.
 fn make<R: Print>(rt: &R, accounts: &mut Accounts<FileSlot>, line: &str) -> Result<(), StoreFault> {
     let Some((from, to, amount)) = transfer_of(line) else {
-        return Err(StoreFault::NoTransfer);
+        return Err(StoreFault::NoLine);
     };
     let done = accounts.transfer(from, to, amount)?;
     accounts.sync(done)?;

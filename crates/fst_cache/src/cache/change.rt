@@ -4,13 +4,12 @@
 ghost use Rattle.std.specs.Prelude.{◌≡◌, ◌<◌, ◌≤◌, ◌+◌, ℕ, Some, IfErr, IfOk, IsErrOf, OnErr, OnOk, MatchOption, MatchResult, slice_index, slice_set};
 ghost use Rattle.fst_types.specs.declared.fault.Fault.{Fault};
 ghost use Rattle.fst_types.specs.declared.grade.Grade.{Grade};
-ghost use Rattle.fst_types.specs.Residence.{faults_rose};
+ghost use Rattle.fst_types.specs.Residence.{IsResident, Brings, FailsToBring, faults_rose, IsOneFaultMore};
 ghost use Rattle.fst_types.specs.Events.{MadeChange, Refused};
 ghost use Rattle.fst_types.specs.Refusals.{IsFirst, NoneHolds};
 ghost use Rattle.fst_types.specs.Step.{Step};
 ghost use Rattle.fst_block.specs.BlockView.{len_if_soft};
 ghost use Rattle.fst_graph.specs.Known.{Refuses, unprepared};
-ghost use Rattle.fst_seat.specs.Faults.{IsOneFaultMore};
 ghost use Rattle.fst_cache.specs.After.{adds_after, event_after, order_after, prepared_after};
 ghost use Rattle.fst_cache.specs.Making.{span_order, MayHold};
 
@@ -121,6 +120,8 @@ impl<S: BlockSlot> Cache<S> {
         ensures faults { self.new.faults ≡ slice_set self.old.faults block.0 (slice_index self.new.faults block.0) }
         ensures one_fault { IsOneFaultMore self.old.faults block.0 self.new.faults }
         ensures no_fault { (IsErrOf result Fault.Device → ⊥) → self.new.faults ≡ self.old.faults }
+        ensures not_read { IsResident self.old.resident block.0 → self.new.faults ≡ self.old.faults }
+        ensures residence { MatchResult result (λ made. Brings self.old.state self.old.resident block.0 self.new.resident) (λ fault. FailsToBring self.old.state self.old.resident block.0 fault self.new.resident) }
         ensures homes { self.new.homes ≡ self.old.homes }
         ensures back { self.new.back ≡ self.old.back }
     {

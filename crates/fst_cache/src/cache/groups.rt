@@ -2,11 +2,10 @@
 
 ghost use Rattle.std.specs.Prelude.{◌≡◌, ◌<◌, ◌+◌, IsErrOf, OnErr, MatchResult, slice_index, slice_set};
 ghost use Rattle.fst_types.specs.declared.fault.Fault.{Fault};
-ghost use Rattle.fst_types.specs.Residence.{faults_rose};
+ghost use Rattle.fst_types.specs.Residence.{IsResident, Brings, FailsToBring, faults_rose, IsOneFaultMore};
 ghost use Rattle.fst_types.specs.Events.{GroupNew, GroupAfter, GroupPatch, GroupClose, Made, MadeChange, Accepted, Refused};
 ghost use Rattle.fst_types.specs.Step.{Step};
 ghost use Rattle.fst_cache.specs.Views.{IsSameBeside};
-ghost use Rattle.fst_seat.specs.Faults.{IsOneFaultMore};
 
 use crate::cache::Cache;
 use crate::cache::change::After;
@@ -83,6 +82,8 @@ impl<S: BlockSlot> Cache<S> {
         ensures faults { self.new.faults ≡ slice_set self.old.faults block.0 (slice_index self.new.faults block.0) }
         ensures one_fault { IsOneFaultMore self.old.faults block.0 self.new.faults }
         ensures no_fault { (IsErrOf result Fault.Device → ⊥) → self.new.faults ≡ self.old.faults }
+        ensures not_read { IsResident self.old.resident block.0 → self.new.faults ≡ self.old.faults }
+        ensures residence { MatchResult result (λ made. Brings self.old.state self.old.resident block.0 self.new.resident) (λ fault. FailsToBring self.old.state self.old.resident block.0 fault self.new.resident) }
         ensures homes { self.new.homes ≡ self.old.homes }
         ensures back { self.new.back ≡ self.old.back }
     {

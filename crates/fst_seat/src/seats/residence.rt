@@ -3,10 +3,9 @@
 
 ghost use Rattle.std.specs.Prelude.{◌≡◌, ◌⊎◌, ◌<◌, ◌≤◌, ◌+◌, true, false, All, None, Some, IfSome, IsErr, IsErrOf, OnOk, length, count_by, map, slice_get, slice_set};
 ghost use Rattle.fst_types.specs.declared.fault.Fault.{Fault};
-ghost use Rattle.fst_types.specs.Residence.{faults_rose};
+ghost use Rattle.fst_types.specs.Residence.{faults_rose, IsOneFaultMore};
 ghost use Rattle.fst_seat.specs.Seats.{SeatView, is_dirty_seat};
-ghost use Rattle.fst_seat.specs.Faults.{IsOneFaultMore};
-ghost use Rattle.fst_seat.specs.Residing.{MakesPlace, Loads, MayLoad, Puts, IsLoadedAt};
+ghost use Rattle.fst_seat.specs.Residing.{MakesPlace, Loads, MayLoad, Puts, IsLoadedAt, IsAwayAt};
 
 use crate::seats::Seats;
 use fst_device::BlockSlot;
@@ -39,7 +38,8 @@ impl<S: BlockSlot> Seats<S> {
         ensures most { self.new.most ≡ self.old.most }
         ensures seats { MayLoad self.old.most self.old.seats block.0 self.new.seats }
         ensures there { OnOk result (IsLoadedAt self.new.seats block.0) }
-        ensures away { IsErr result → Loads self.old.most self.old.seats block.0 self.new.seats }
+        ensures loads { IsErr result → Loads self.old.most self.old.seats block.0 self.new.seats }
+        ensures away { IsErr result → IsAwayAt self.new.seats block.0 }
         ensures device { IsErrOf result Fault.Device → faults_rose (map (λ seat. seat.faults) self.old.seats) (map (λ seat. seat.faults) self.new.seats) block.0 ≡ true }
         ensures one_fault { IsOneFaultMore (map (λ seat. seat.faults) self.old.seats) block.0 (map (λ seat. seat.faults) self.new.seats) }
         ensures no_fault { (IsErrOf result Fault.Device → ⊥) → map (λ seat. seat.faults) self.new.seats ≡ map (λ seat. seat.faults) self.old.seats }
@@ -75,6 +75,7 @@ impl<S: BlockSlot> Seats<S> {
         ensures most { self.new.most ≡ self.old.most }
         ensures put { OnOk result (Puts self.old.most self.old.seats block.0 (record { number = no.0; span = span; grade = grade; bytes = bytes.now }) self.new.seats) }
         ensures refused { IsErr result → MayLoad self.old.most self.old.seats block.0 self.new.seats }
+        ensures away { IsErrOf result Fault.Device → IsAwayAt self.new.seats block.0 }
         ensures device { IsErrOf result Fault.Device → faults_rose (map (λ seat. seat.faults) self.old.seats) (map (λ seat. seat.faults) self.new.seats) block.0 ≡ true }
         ensures one_fault { IsOneFaultMore (map (λ seat. seat.faults) self.old.seats) block.0 (map (λ seat. seat.faults) self.new.seats) }
         ensures no_fault { (IsErrOf result Fault.Device → ⊥) → map (λ seat. seat.faults) self.new.seats ≡ map (λ seat. seat.faults) self.old.seats }

@@ -15,7 +15,8 @@ use Rattle.fst_cache.proofs.MakeStep.{IsPut}
 use Rattle.fst_cache.proofs.MakeAfter.{after_changed, after_kept, after_left, after_refused, span_refused}
 use Rattle.fst_cache.proofs.MakeBeside.{faults_made, homes_made, back_made}
 use Rattle.fst_cache.proofs.ResideUndo.{undo_is, undo_short}
-use Rattle.fst_cache.proofs.ResideShowing.{faults_of, load_fault, told}
+use Rattle.fst_cache.proofs.ResideBringing.{brings_put, fails_either, not_read}
+use Rattle.fst_cache.proofs.ResideShowing.{faults_of, load_fault, load_kind, told}
 use Rattle.fst_cache.proofs.cache.Cache.change.Goals.{In_default, In-Err-put, After-undo_bytes}
 use Rattle.fst_cache.proofs.cache.Cache.change.Goals as goal
 
@@ -63,6 +64,12 @@ returns-in-Some-clause-one_fault g c = inl refl
 pub returns-in-Some-clause-no_fault : goal.returns-in-Some-clause-no_fault
 returns-in-Some-clause-no_fault g c = λ _. refl
 
+pub returns-in-Some-clause-not_read : goal.returns-in-Some-clause-not_read
+returns-in-Some-clause-not_read g c = λ _. refl
+
+pub returns-in-Some-clause-residence : goal.returns-in-Some-clause-residence
+returns-in-Some-clause-residence g c = inl refl
+
 pub returns-in-Some-clause-homes : goal.returns-in-Some-clause-homes
 returns-in-Some-clause-homes g c = refl
 
@@ -80,6 +87,12 @@ returns-in-Err-clause-one_fault g c = rw (← c.self.view_is) (inl refl)
 
 pub returns-in-Err-clause-no_fault : goal.returns-in-Err-clause-no_fault
 returns-in-Err-clause-no_fault g c = rw (← c.self.view_is) (λ _. refl)
+
+pub returns-in-Err-clause-not_read : goal.returns-in-Err-clause-not_read
+returns-in-Err-clause-not_read g c = rw (← c.self.view_is) (λ _. refl)
+
+pub returns-in-Err-clause-residence : goal.returns-in-Err-clause-residence
+returns-in-Err-clause-residence g c = rw (← c.self.view_is) (inl refl)
 
 pub returns-in-Err-clause-homes : goal.returns-in-Err-clause-homes
 returns-in-Err-clause-homes g c = rw (← c.self.view_is) refl
@@ -178,6 +191,16 @@ returns-in-Err-put-clause-one_fault g c = rw (← c.self.view_is) c.put.ensures.
 pub returns-in-Err-put-clause-no_fault : goal.returns-in-Err-put-clause-no_fault
 returns-in-Err-put-clause-no_fault g c = rw (← c.self.view_is) (λ fine. c.in-Err-put.ensures.no_fault (λ d. fine (told c.in-Err-put.fault c.in-Err-put.fault refl d)))
 
+-- which blocks are in memory then
+pub returns-in-Err-put-clause-not_read : goal.returns-in-Err-put-clause-not_read
+returns-in-Err-put-clause-not_read g c = rw (← c.self.view_is) (not_read c.self.inside c.self.invariant (loads g (goal.at.returns-in-Err-put-clause-not_read g c).In-Err-put))
+
+pub returns-in-Err-put-clause-residence : goal.returns-in-Err-put-clause-residence
+returns-in-Err-put-clause-residence g c =
+    rw (← c.self.view_is)
+    (fails_either c.self.inside c.self.invariant _ c.in-Err-put.fault refl (loads g (goal.at.returns-in-Err-put-clause-residence g c).In-Err-put) c.in-Err-put.ensures.away
+    (load_kind _ c.in-Err-put.fault refl c.in-Err-put.ensures.kinds))
+
 pub overflow_add-self : goal.overflow_add-self
 overflow_add-self g c =
     let same = undo_is c.self.inside c.self.invariant in
@@ -210,3 +233,9 @@ returns-clause-one_fault g c = rw (← c.self.view_is) (inl (quiet g (goal.at.re
 
 pub returns-clause-no_fault : goal.returns-clause-no_fault
 returns-clause-no_fault g c = rw (← c.self.view_is) (λ _. quiet g (goal.at.returns-clause-no_fault g c).After-undo_bytes)
+
+pub returns-clause-not_read : goal.returns-clause-not_read
+returns-clause-not_read g c = rw (← c.self.view_is) (λ _. quiet g (goal.at.returns-clause-not_read g c).After-undo_bytes)
+
+pub returns-clause-residence : goal.returns-clause-residence
+returns-clause-residence g c = rw (← c.self.view_is) (brings_put c.self.inside c.self.invariant (put g (goal.at.returns-clause-residence g c).After-undo_bytes).puts)

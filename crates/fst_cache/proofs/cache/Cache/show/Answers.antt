@@ -12,7 +12,8 @@ use Rattle.fst_cache.specs.Kept.{state_of}
 use Rattle.fst_cache.proofs.Kept.{kept_seats}
 use Rattle.fst_cache.proofs.ResideSeats.{room_for}
 use Rattle.fst_cache.proofs.ResideLoading.{Loaded, load_keeps, within_of}
-use Rattle.fst_cache.proofs.ResideShowing.{load_fault, step_not_loaded, told}
+use Rattle.fst_cache.proofs.ResideBringing.{brings, fails_away, not_read}
+use Rattle.fst_cache.proofs.ResideShowing.{load_fault, load_kind, step_not_loaded, told}
 use Rattle.fst_cache.proofs.cache.Cache.show.Goals.{In_default, After-load}
 use Rattle.fst_cache.proofs.cache.Cache.show.Goals as goal
 
@@ -27,7 +28,7 @@ loaded : (g : _) (c : After-load g) → Loaded c.self.inside c.args.block.0 c.lo
 loaded g c = load_keeps c.self.inside c.self.invariant c.args.block.0 c.load.new.self.seats c.load.ensures.seats
 
 pub returns-in-Some : goal.returns-in-Some
-returns-in-Some g c = ((refl, (λ _. tt), (refl, refl, refl, sym (set-get_or c.args.self.now.faults c.args.block.0 0), refused (inl c.in-Some.ensures), inl refl, (λ _. refl))), record { after = tt })
+returns-in-Some g c = ((refl, (λ _. tt), (refl, refl, refl, sym (set-get_or c.args.self.now.faults c.args.block.0 0), refused (inl c.in-Some.ensures), inl refl, (λ _. refl), (λ _. refl), inl refl)), record { after = tt })
 
 pub load-requires-clause-within : goal.load-requires-clause-within
 load-requires-clause-within g c = within g (goal.at.load-requires-clause-within g c).In_default
@@ -58,24 +59,25 @@ returns g c =
     let at = goal.at.returns g c in
     let L = loaded g at.After-load in
     let quiet = c.in_ok-load.ensures.no_fault (λ e. not_failed e) in
-    rw (c.bytes.ensures, c.load.ensures.most, ← c.self.view_is, L.blocks) ((refl, (λ _. tt), (refl {a = state_of c.self.inside}, L.homes, L.back, L.faults, accepted (clear g at.In_default) show, inl quiet, (λ _. quiet))), record { after = tt })
+    rw (c.bytes.ensures, c.load.ensures.most, ← c.self.view_is, L.blocks) ((refl, (λ _. tt), (refl {a = state_of c.self.inside}, L.homes, L.back, L.faults, accepted (clear g at.In_default) show, inl quiet, (λ _. quiet), (λ _. quiet), brings c.self.inside c.self.invariant c.load.ensures.seats c.in_ok-load.ensures.there)), record { after = tt })
 
 pub returns-in_err-load : goal.returns-in_err-load
 returns-in_err-load g c =
     let at = goal.at.returns-in_err-load g c in
     let L = loaded g at.After-load in
     let p = err_from_is_err_and c.from_residual.result c.from_residual.ensures.1 in
-    let loads = c.load.ensures.away in
+    let loads = c.load.ensures.loads in
     let rose = c.load.ensures.device in
     let counted = c.load.ensures.one_fault in
     let quiet = c.load.ensures.no_fault in
     let was : c.load.result ≡ Err c.in_err-load.field-0.0 = c.in_err-load.was in
+    let away = c.load.ensures.away (subst IsErr (sym was) refl) in
     let refused_by = load_fault c.load.result c.in_err-load.field-0.0 _ was c.load.ensures.kinds rose in
     rw (p.1, c.load.ensures.most, ← c.self.view_is, L.blocks) (
       (
         refl,
         (λ _. tt),
-        (refl {a = state_of c.self.inside}, L.homes, L.back, L.faults, step_not_loaded c.self.inside c.self.invariant c.args.block.0 c.load.new.self.seats p.0 (clear g at.In_default) (loads (subst IsErr (sym was) refl)) (rw p.2 refused_by), counted, (λ fine. quiet (λ d. fine (told p.0 _ p.2 (sym was ∙ d))))),
+        (refl {a = state_of c.self.inside}, L.homes, L.back, L.faults, step_not_loaded c.self.inside c.self.invariant c.args.block.0 c.load.new.self.seats p.0 (clear g at.In_default) (loads (subst IsErr (sym was) refl)) (rw p.2 refused_by), counted, (λ fine. quiet (λ d. fine (told p.0 _ p.2 (sym was ∙ d)))), not_read c.self.inside c.self.invariant c.load.ensures.seats, fails_away c.self.inside c.self.invariant p.0 c.load.ensures.seats away (rw p.2 (load_kind c.load.result c.in_err-load.field-0.0 was c.load.ensures.kinds))),
       ),
       record { after = tt },
     )

@@ -7,7 +7,7 @@ use Rattle.fst_seat.specs.Seats.{SeatView}
 use Rattle.fst_seat.specs.Residing.{MakesPlace, IsLoadedAt}
 use Rattle.fst_seat.proofs.Listing.{listed_at, read_noted}
 use Rattle.fst_seat.proofs.Dirty.{read_clean}
-use Rattle.fst_seat.proofs.Loading.{none_of, away_placed, length_placed, loads_by, there_by, rose_by, quiet_by, counted_by}
+use Rattle.fst_seat.proofs.Loading.{none_of, away_placed, length_placed, loads_by, there_by, away_by, rose_by, quiet_by, counted_by}
 use Rattle.fst_seat.proofs.InStep.{in_step_moved}
 use Rattle.fst_seat.proofs.seats.Seats.load.Goals.{After-index, After-make_place, After-index_mut, After-load-read}
 use Rattle.fst_seat.proofs.seats.Seats.load.Goals as goal
@@ -78,11 +78,17 @@ returns-clause-there g c =
     let at = all.After-index_mut in
     on_ok_weaker c.load-read.result (there_by _ _ _ (placed g at) c.args.block.0 _ (was g all.After-index) (away g all.After-make_place) _ (seated g at) c.load-read.new.self) c.load-read.ensures.there
 
+pub returns-clause-loads : goal.returns-clause-loads
+returns-clause-loads g c =
+    let all = goal.at.returns-clause-loads g c in
+    let at = all.After-index_mut in
+    λ err. loads_by _ _ _ (placed g at) c.args.block.0 _ (was g all.After-index) (away g all.After-make_place) _ (seated g at) c.load-read.new.self c.load-read.ensures.same c.load-read.ensures.loaded
+
 pub returns-clause-away : goal.returns-clause-away
 returns-clause-away g c =
     let all = goal.at.returns-clause-away g c in
     let at = all.After-index_mut in
-    λ err. loads_by _ _ _ (placed g at) c.args.block.0 _ (was g all.After-index) (away g all.After-make_place) _ (seated g at) c.load-read.new.self c.load-read.ensures.same c.load-read.ensures.loaded
+    λ err. away_by _ _ _ (placed g at) c.args.block.0 _ (was g all.After-index) (away g all.After-make_place) _ (seated g at) c.load-read.new.self (c.load-read.ensures.away err).1
 
 pub returns-clause-device : goal.returns-clause-device
 returns-clause-device g c =

@@ -7,7 +7,7 @@ use Rattle.fst_seat.specs.Seats.{SeatView}
 use Rattle.fst_seat.specs.Residing.{IsLoadedAt, MayLoad}
 use Rattle.fst_seat.proofs.Seated.{same_listed}
 use Rattle.fst_seat.proofs.Listing.{listed_at}
-use Rattle.fst_seat.proofs.Putting.{on_refusal, memory_kind, not_failed, inside_of, newest_of, puts_of, same_load, seat_after, counts_after}
+use Rattle.fst_seat.proofs.Putting.{on_refusal, memory_kind, not_device, not_failed, inside_of, newest_of, puts_of, same_load, seat_after, counts_after}
 use Rattle.fst_seat.proofs.InStep.{in_step_marked}
 use Rattle.fst_seat.proofs.seats.Seats.put.Goals.{After-index_mut-seat, After-apply-put}
 use Rattle.fst_seat.proofs.seats.Seats.put.Goals as goal
@@ -79,6 +79,9 @@ returns-clause-refused g c =
     let all = goal.at.returns-clause-refused g c in
     let at = all.After-index_mut-seat in
     λ err. same_load c.args.self.now.most c.args.self.now.seats c.self.inside.seats.items c.args.block.0 _ (seated g at) c.apply-put.new.self (read g at) (on_refusal c.apply-put.result err c.apply-put.ensures.unchanged)
+
+pub returns-clause-away : goal.returns-clause-away
+returns-clause-away g c = λ device. absurd (not_device c.apply-put.result c.apply-put.ensures.only_memory device)
 
 pub returns-clause-one_fault : goal.returns-clause-one_fault
 returns-clause-one_fault g c =
