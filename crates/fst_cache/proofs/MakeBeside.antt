@@ -1,7 +1,5 @@
--- What a patch that was put leaves beside the state: of the counts of faults one alone may have risen, and what the slots hold and what
--- came back are as they were.
-use Rattle.std.proofs.Common.{◌≡◌, ℕ, List, map, refl, sym, ap, ◌∙◌, slice_set}
-use Rattle.std.specs.Prelude.{slice_index}
+-- What a patch that was put leaves beside the state: what the slots hold, and what came back.
+use Rattle.std.proofs.Common.{◌≡◌, ℕ, List, map, refl, ap, ◌∙◌}
 use Rattle.fst_block.specs.BlockView.{BlockPatch}
 use Rattle.fst_seat.specs.Seats.{SeatView}
 use Rattle.fst_seat.specs.Residing.{Puts}
@@ -17,11 +15,6 @@ module _ {Slot : Type 0} (i : Inside Slot) (K : IsKept i) {b : ℕ} {patch : Blo
   -- the patch is put into the bytes in memory alone
   put_listed : {Y : Type 0} (f : SeatView → Y) → ((t : SeatView) (o : _) → f (record t { loaded = o }) ≡ f t) → map f new ≡ map f puts.read
   put_listed f each = ap (map f) puts.seats ∙ same_listed puts.read b puts.seat puts.at f _ (each puts.seat _)
-
-  pub faults_made : map (λ (t : SeatView). t.faults) new ≡ slice_set (map (λ (t : SeatView). t.faults) i.seats.seats) b (slice_index (map (λ (t : SeatView). t.faults) new) b)
-  faults_made =
-      let still : map (λ (t : SeatView). t.faults) new ≡ map (λ (t : SeatView). t.faults) puts.read = put_listed (λ (t : SeatView). t.faults) (λ t o. refl) in
-      still ∙ (load.faults ∙ ap (λ (xs : List ℕ). slice_set (map (λ (t : SeatView). t.faults) i.seats.seats) b (slice_index xs b)) (sym still))
 
   pub homes_made : map (λ (t : SeatView). t.home) new ≡ map (λ (t : SeatView). t.home) i.seats.seats
   homes_made = put_listed (λ (t : SeatView). t.home) (λ t o. refl) ∙ load.homes

@@ -1,9 +1,7 @@
 -- What the cache's type keeps, as blocks come into memory and leave it.
 use Rattle.std.proofs.Common.{◌≡◌, ◌<◌, ◌≤◌, ◌+◌, ℕ, Bool, true, false, cond, List, map, Option, Some, None, is_some, refl, sym, ap, subst, ◌∙◌, inl, inr, arith, slice_get, slice_set, length-set}
-use Rattle.std.specs.Prelude.{slice_index}
 use Rattle.std.specs.Option.{option_map_or}
 use Rattle.std.proofs.lemmas.Bool.{false≢true, cases_lt}
-use Rattle.std.proofs.lemmas.List.{set-get_or}
 use Rattle.std.proofs.lemmas.List.Sums.{sum_by-set}
 use Rattle.std.proofs.lemmas.Option.{get_or_from_slice_get, slice_get_within}
 use Rattle.fst_types.specs.State.{State, BlockState}
@@ -15,7 +13,7 @@ use Rattle.fst_seat.specs.Residing.{count_loaded, IsReadOf, IsCleanAt, MakesPlac
 use Rattle.fst_cache.specs.declared.cache.Cache.TheInside.{Inside}
 use Rattle.fst_cache.specs.Kept.{IsKept, IsKeptSeat, state_of, view_of}
 use Rattle.fst_seat.proofs.Loading.{away_read}
-use Rattle.fst_seat.proofs.Seated.{get-set, listed_new, listed_set, same_listed}
+use Rattle.fst_seat.proofs.Seated.{get-set, listed_set, same_listed}
 use Rattle.fst_seat.proofs.Undo.{undo_same, undo_clean}
 use Rattle.fst_cache.proofs.ResideSeats.{clean, clean_view, dirty_is}
 
@@ -134,14 +132,13 @@ module _ {Slot : Type 0} (i : Inside Slot) (K : IsKept i) (b : ℕ) (seat : Seat
 record Placed {Slot : Type 0} (i : Inside Slot) (placed : List SeatView) : Type 0 where
   kept : IsKept (with_seats i placed)
   blocks : blocks placed ≡ blocks i.seats.seats
-  faults : map (λ (t : SeatView). t.faults) placed ≡ map (λ (t : SeatView). t.faults) i.seats.seats
   homes : map (λ (t : SeatView). t.home) placed ≡ map (λ (t : SeatView). t.home) i.seats.seats
   back : map (λ (t : SeatView). t.back) placed ≡ map (λ (t : SeatView). t.back) i.seats.seats
   free : count_loaded placed < i.seats.most
 
 -- a place is made
 placed_by : {Slot : Type 0} (i : Inside Slot) → IsKept i → (placed : List SeatView) → MakesPlace i.seats.most i.seats.seats placed → Placed i placed
-placed_by i K placed (inl h) = subst (Placed i) (sym h.1) (record { kept = K; blocks = refl; faults = refl; homes = refl; back = refl; free = h.0 })
+placed_by i K placed (inl h) = subst (Placed i) (sym h.1) (record { kept = K; blocks = refl; homes = refl; back = refl; free = h.0 })
 placed_by i K placed (inr h) =
     let c = h.1.0 in
     let seat = h.1.1 in
@@ -150,17 +147,15 @@ placed_by i K placed (inr h) =
     (record {
       kept = unloaded i K c seat found.at found.block.clean;
       blocks = same_listed i.seats.seats c seat found.at (λ (t : SeatView). t.block) (record seat { loaded = None }) refl;
-      faults = same_listed i.seats.seats c seat found.at (λ (t : SeatView). t.faults) (record seat { loaded = None }) refl;
       homes = same_listed i.seats.seats c seat found.at (λ (t : SeatView). t.home) (record seat { loaded = None }) refl;
       back = same_listed i.seats.seats c seat found.at (λ (t : SeatView). t.back) (record seat { loaded = None }) refl;
       free = place_left i K c seat found.at found.block.there;
     })
 
--- a load keeps what the type keeps, in the same state, and leaves what the slots hold, the other slots' counts and what came back
+-- a load keeps what the type keeps, in the same state, and leaves what the slots hold and what came back
 pub record Loaded {Slot : Type 0} (i : Inside Slot) (b : ℕ) (new : List SeatView) : Type 0 where
   pub kept : IsKept (with_seats i new)
   pub blocks : blocks new ≡ blocks i.seats.seats
-  pub faults : map (λ (t : SeatView). t.faults) new ≡ slice_set (map (λ (t : SeatView). t.faults) i.seats.seats) b (slice_index (map (λ (t : SeatView). t.faults) new) b)
   pub homes : map (λ (t : SeatView). t.home) new ≡ map (λ (t : SeatView). t.home) i.seats.seats
   pub back : map (λ (t : SeatView). t.back) new ≡ map (λ (t : SeatView). t.back) i.seats.seats
 
@@ -168,13 +163,10 @@ loads_keeps : {Slot : Type 0} (i : Inside Slot) → IsKept i → (b : ℕ) (new 
 loads_keeps i K b new L =
     let P = placed_by i K L.placed L.place in
     let after = record L.seat { loaded = L.loaded; faults = L.faults } in
-    let listed = listed_set L.placed b L.seat L.at (λ (t : SeatView). t.faults) after in
-    let now = listed_new L.placed b L.seat L.at (λ (t : SeatView). t.faults) 0 after in
     subst (Loaded i b) (sym L.seats)
     (record {
       kept = filled (with_seats i L.placed) P.kept b L.seat L.at L.loaded L.faults (away_read L) L.read P.free;
       blocks = same_listed L.placed b L.seat L.at (λ (t : SeatView). t.block) after refl ∙ P.blocks;
-      faults = listed ∙ (ap (λ xs. slice_set xs b L.faults) P.faults ∙ ap (slice_set (map (λ (t : SeatView). t.faults) i.seats.seats) b) (sym now));
       homes = same_listed L.placed b L.seat L.at (λ (t : SeatView). t.home) after refl ∙ P.homes;
       back = same_listed L.placed b L.seat L.at (λ (t : SeatView). t.back) after refl ∙ P.back;
     })
@@ -186,7 +178,6 @@ load_keeps i K b new (inl h) =
     (record {
       kept = K;
       blocks = refl;
-      faults = sym (set-get_or (map (λ (t : SeatView). t.faults) i.seats.seats) b 0);
       homes = refl;
       back = refl;
     })

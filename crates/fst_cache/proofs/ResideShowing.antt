@@ -16,7 +16,7 @@ use Rattle.fst_cache.specs.declared.cache.Cache.TheInside.{Inside}
 use Rattle.fst_cache.specs.Kept.{IsKept, state_of}
 use Rattle.fst_cache.proofs.ResideLoading.{loads_clean}
 
-same_fault : {T : Type 0} {f g : Fault} → ◌≡◌ {A = Result T Fault} (Err f) (Err g) → f ≡ g
+pub same_fault : {T : Type 0} {f g : Fault} → ◌≡◌ {A = Result T Fault} (Err f) (Err g) → f ≡ g
 same_fault e = cc
 
 -- a load is refused by the device, or for want of memory

@@ -57,6 +57,7 @@ fn plays<I: Read, O: Write, E: Write>(
     ensures done { result ≡ 0 → Ran (Run.Play blocks size resident) (I.remaining reader.old) (I.remaining reader.new) (O.contents out.old) (O.contents out.new) }
     ensures refused { result ≡ 2 → (IsInRange (Run.Play blocks size resident) → ⊥) × (I.remaining reader.new ≡ I.remaining reader.old) × (O.contents out.new ≡ O.contents out.old) }
     ensures stopped { result ≡ 1 → WasStopped (Run.Play blocks size resident) (I.remaining reader.old) (I.remaining reader.new) (O.contents out.old) (O.contents out.new) }
+    ensures quiet { result ≡ 0 → E.contents err.new ≡ E.contents err.old }
     ensures known { result ≤ 2 }
 {
     let Ok(shape) = Shape::new(blocks, size, resident.unwrap_or(blocks)) else {
@@ -83,6 +84,7 @@ fn crews<R: Threads + Wait + Sync, O: Write, E: Write>(
 ) -> u8
     ensures done { result ≡ 0 → (unread : Option (List ℕ)) → Ran (Run.Crew files workers rounds) unread unread (O.contents out.old) (O.contents out.new) }
     ensures refused { result ≡ 2 → (IsInRange (Run.Crew files workers rounds) → ⊥) × (O.contents out.new ≡ O.contents out.old) }
+    ensures quiet { result ≡ 0 → E.contents err.new ≡ E.contents err.old }
     ensures known { result ≤ 2 }
 {
     let Ok(plan) = Crew::new(files, workers, rounds) else {
@@ -103,6 +105,7 @@ fn tell<O: Write, E: Write>(error: &Error, out: &mut O, err: &mut E) -> u8
     ensures done { result ≡ 0 → kind_of error.now ≡ ErrorKind.DisplayHelp }
     ensures refused { result ≡ 2 → (kind_of error.now ≢ ErrorKind.DisplayHelp) × (kind_of error.now ≢ ErrorKind.OutOfMemory) × (O.contents out.new ≡ O.contents out.old) }
     ensures stopped { result ≡ 1 → (kind_of error.now ≡ ErrorKind.DisplayHelp) ⊎ (O.contents out.new ≡ O.contents out.old) }
+    ensures quiet { result ≡ 0 → E.contents err.new ≡ E.contents err.old }
     ensures known { result ≤ 2 }
 {
     match error.kind() {
@@ -121,7 +124,8 @@ fn tell<O: Write, E: Write>(error: &Error, out: &mut O, err: &mut E) -> u8
 }
 
 /// Does what the words ask, the program's name first, and answers the status. Replies, what a crew prints and help go
-/// to `out`; why the words are refused, and that the program was stopped, to `err`, where a failure is passed over.
+/// to `out`; why the words are refused, and that the program was stopped, to `err`, where a failure is passed over. Nothing
+/// goes there where the status is 0.
 pub fn carry_out<R: Threads + Wait + Sync, I: Read, O: Write, E: Write>(
     rt: &R,
     alloc: Global,
@@ -133,6 +137,7 @@ pub fn carry_out<R: Threads + Wait + Sync, I: Read, O: Write, E: Write>(
     ensures done { result ≡ 0 → ((run : Run) × Asks (map (λ w. w.now) words.now) run × Ran run (I.remaining reader.old) (I.remaining reader.new) (O.contents out.old) (O.contents out.new)) ⊎ (AsksHelp (map (λ w. w.now) words.now) × (I.remaining reader.new ≡ I.remaining reader.old)) }
     ensures refused { result ≡ 2 → AreRefused (map (λ w. w.now) words.now) × (I.remaining reader.new ≡ I.remaining reader.old) × (O.contents out.new ≡ O.contents out.old) }
     ensures stopped { result ≡ 1 → ((run : Run) × Asks (map (λ w. w.now) words.now) run × WasStopped run (I.remaining reader.old) (I.remaining reader.new) (O.contents out.old) (O.contents out.new)) ⊎ RanNothing (map (λ w. w.now) words.now) (I.remaining reader.old) (I.remaining reader.new) (O.contents out.old) (O.contents out.new) }
+    ensures quiet { result ≡ 0 → E.contents err.new ≡ E.contents err.old }
     ensures known { result ≤ 2 }
 {
     match args(alloc, words) {

@@ -1,6 +1,6 @@
 -- What a write does to the state when it is sent out and settled.
-use Rattle.std.proofs.Common.{◌≡◌, ℕ, ◌+◌, ◌<◌, List, [], Bool, true, Option, Some, None, IsSome, length, get_or, set, refl, ap, sym, subst, ◌∙◌, arith, inl, inr}
-use Rattle.std.proofs.lemmas.Bool.{cases_lt}
+use Rattle.std.proofs.Common.{◌≡◌, ℕ, ◌+◌, ◌<◌, List, [], Bool, true, Option, Some, None, IsSome, IfSome, is_some, length, get_or, set, refl, ap, sym, subst, ◌∙◌, arith, inl, inr}
+use Rattle.std.proofs.lemmas.Bool.{cases_lt, false≢true}
 use Rattle.fst_types.specs.declared.fault.Fault.{Fault}
 use Rattle.fst_types.specs.declared.settled.Settled.{Settled as Outcome}
 use Rattle.fst_types.specs.declared.settled.Settled.TheVariants as settled
@@ -9,13 +9,15 @@ use Rattle.fst_types.specs.State.{Flight, BlockState, State, block_of, flight_of
 use Rattle.fst_types.specs.Writable.{IsWritable}
 use Rattle.fst_types.specs.Flights.{IsOut, IsStalled}
 use Rattle.fst_types.specs.Facts.{IsLawful}
-use Rattle.fst_types.specs.Events.{Issue, Retry, Settle, Pick, Job, Block, Refused}
+use Rattle.fst_types.specs.Events.{Event, Issue, Retry, Settle, Pick, Job, Block, Refused}
+use Rattle.fst_types.specs.Looks.{IsPick, IsStalledPick}
 use Rattle.fst_types.specs.Order.{IsRefusal}
 use Rattle.fst_types.specs.Step.{Step, accepted, refused, Row, pick, issue, retry, land, stall, lose, group}
 use Rattle.fst_types.proofs.Moves.{flight_out, put_at, has_block, same_some}
 use Rattle.fst_cache.specs.Views.{CacheView}
 use Rattle.fst_cache.specs.Replies.{settled_reply, IsStuck}
 use Rattle.journal_calls.specs.Exhausted.{IsExhausted, IsWriteRefused, no_flight_left, no_ticket_left, no_memory}
+use Rattle.journal_calls.specs.Writing.{IsNext, issues, SendsNext, IsNextRefused, WritesNext}
 
 -- the write of block b is out under the next ticket
 pub record IsSent (old : State) (ticket b : ℕ) (image : List ℕ) (new : State) : Type 0 where
@@ -32,10 +34,49 @@ pub picked_some : (old new : State) (b : ℕ) → Step old Pick (Block (Some b))
 picked_some old new b (accepted n (group m)) = elim m [ ]
 picked_some old new b (accepted n (pick least)) = least.writable
 
+-- and the least of them
+picked_least : (old new : State) (b : ℕ) → Step old Pick (Block (Some b)) new → IsPick old.heads (Some b)
+picked_least old new b (accepted n (group m)) = elim m [ ]
+picked_least old new b (accepted n (pick least)) = least
+
+-- where nothing waits for another try, the block that is picked is the next to be written
+pub issue_is_next : (start old : State) (b : ℕ) → IsStalledPick start None → Step start Pick (Block (Some b)) old → IsNext start (Issue b)
+issue_is_next start old b none looked = issues none (picked_least start old b looked)
+
+-- it goes out from the state in which it was picked
+pub sends_next : (start old : CacheView) (new : State) (e : Event) (ticket b : ℕ) (image : List ℕ) → old ≡ start → IsNext start.state e → Step old.state e (Job ticket b image) new → SendsNext start.state ticket b image new
+sends_next start old new e ticket b image same next step = record { event = e; next = next; step = subst (λ (v : CacheView). Step v.state e (Job ticket b image) new) same step }
+
+-- or can not, and nothing changes
+pub next_refused : (start old new : CacheView) (e : Event) (f : Fault) → old ≡ start → new ≡ old → IsNext start.state e → Step old.state e (Refused f) new.state → IsNextRefused new.state f
+next_refused start old new e f same still next step = record {
+  event = e;
+  next = subst (λ (v : CacheView). IsNext v.state e) (sym (still ∙ same)) next;
+  step = subst (λ (v : CacheView). Step v.state e (Refused f) new.state) (sym still) step;
+}
+
+-- the completion has the ticket, the block and the image of its job
+pub writes_next : (old out new : State) (t b u c : ℕ) (image carried : List ℕ) (written : Bool) (how : Outcome) → u ≡ t → c ≡ b → carried ≡ image → SendsNext old t b image out
+    → Step out (Settle u c carried written) (settled_reply how) new → WritesNext old how new
+writes_next old out new t b u c image carried written how et eb ei sends step = record {
+  ticket = u;
+  block = c;
+  image = carried;
+  out = out;
+  sends = rw (et, eb, ei) sends;
+  written = written;
+  settles = step;
+}
+
 -- where nothing is stalled and nothing is picked, nothing can be written
 pub exhausted : (old new : CacheView) → new ≡ old → ((b : ℕ) → IsStalled old.state b → ⊥) → Step old.state Pick (Block None) new.state → IsStuck old.state → IsExhausted new.state
 exhausted old new same unstalled step stuck =
     subst (λ (v : CacheView). IsExhausted v.state) (sym same) (record { unwritable = picked_none old.state new.state step; unstalled = unstalled; held_up = stuck })
+
+-- what is said of a write that was made
+pub of_some : (o : Option Outcome) (P : Outcome → Type 0) → is_some o ≡ true → IfSome o P → (how : Outcome) × P how
+of_some None P e p = absurd (false≢true e)
+of_some (Some how) P e p = (how, p)
 
 -- the flight that was put on block b
 put_flight : (old new : State) (b : ℕ) (f : Flight) → b < length old.blocks → new.blocks ≡ set old.blocks b (record (block_of old b) { flight = Some f }) → flight_of new b ≡ Some f

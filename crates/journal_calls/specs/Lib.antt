@@ -1,3 +1,4 @@
 pub mod Exhausted
+pub mod Writing
 pub mod Making
 pub mod Pairing

@@ -2,8 +2,8 @@
 //!
 //! Of the second nothing is written before all of the first is on disk, or goes in the same write.
 
-ghost use Rattle.std.specs.Prelude.{IfOk};
-ghost use Rattle.journal_calls.specs.Pairing.{IsPair};
+ghost use Rattle.std.specs.Prelude.{◌≡◌, ◌+◌, IfOk, IfErr, OnOk};
+ghost use Rattle.journal_calls.specs.Pairing.{IsPair, MakesPair, FailsToPair};
 
 use fst_cache::{Cache, Share};
 use fst_device::BlockSlot;
@@ -17,15 +17,32 @@ pub struct Pair {
     pub tail: PatchNo,
 }
 
-/// Makes two groups, and puts the second after the first.
+/// Makes two groups, and puts the second after the first. It takes what two `group_new` and a `group_after` take.
+///
+/// Refused as `group_new` is: `Full(Numbers)` (the share), `Full(Groups)`, `Full(Heads)`, `Full(Numbers)` or `Memory`. Where
+/// the first was made already it is closed, so that no gate stays open; its numbers and its place among the groups are
+/// spent.
 pub fn two_groups<S: BlockSlot>(cache: &mut Cache<S>, share: &mut Share) -> Result<Pair, Fault>
-    ensures { IfOk result (λ pair. IsPair cache.new.state.groups pair.first.0 pair.second.0 pair.tail.0) }
+    ensures pair { IfOk result (λ pair. IsPair cache.new.state.groups pair.first.0 pair.second.0 pair.tail.0) }
+    ensures made { IfOk result (λ pair. MakesPair cache.old.state share.old pair.first.0 pair.second.0 cache.new.state) }
+    ensures share { OnOk result (share.new ≡ share.old + 4) }
+    ensures refused { IfErr result (λ fault. FailsToPair cache.old.state share.old fault cache.new.state share.new) }
 {
     let first = cache.group_new(share)?;
-    let second = cache.group_new(share)?;
+    let second = match cache.group_new(share) {
+        Ok(second) => second,
+        Err(fault) => {
+            let _ = cache.group_close(first);
+            return Err(fault);
+        }
+    };
     // a group has two gates: its head, which has the group's number, and its tail, which has the next
     let tail = PatchNo(second.0 + 1);
-    cache.group_after(second, first)?;
+    if let Err(fault) = cache.group_after(second, first) {
+        let _ = cache.group_close(second);
+        let _ = cache.group_close(first);
+        return Err(fault);
+    }
     Ok(Pair {
         first,
         second,

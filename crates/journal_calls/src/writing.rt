@@ -6,6 +6,7 @@
 ghost use Rattle.std.specs.Prelude.{◌≡◌, ◌+◌, ◌≤◌, ◌↔◌, IsTrue, IfOk, IfErr, IfSome, IfNone, OnErr};
 ghost use Rattle.fst_types.specs.Flights.{IsOut};
 ghost use Rattle.journal_calls.specs.Exhausted.{IsDurable, IsExhausted, IsWriteRefused};
+ghost use Rattle.journal_calls.specs.Writing.{IsNextRefused, SendsNext, WritesNext, WritesUntil};
 
 use fst_cache::Cache;
 use fst_device::{BlockSlot, Job, carry};
@@ -37,10 +38,12 @@ pub fn is_durable<S: BlockSlot>(cache: &Cache<S>, patch: PatchNo) -> bool
 /// where there is neither.
 fn next_job<S: BlockSlot>(cache: &mut Cache<S>) -> Result<Option<Job<S>>, Fault>
     ensures out { IfOk result (λ next. IfSome next (λ job. IsOut cache.new.state job.ticket job.block job.image)) }
+    ensures sent { IfOk result (λ next. IfSome next (λ job. SendsNext cache.old.state job.ticket job.block job.image cache.new.state)) }
     ensures ticket { IfOk result (λ next. IfSome next (λ _. cache.new.state.tickets ≡ cache.old.state.tickets + 1)) }
     ensures exhausted { IfOk result (λ next. IfNone next (IsExhausted cache.new.state)) }
     ensures idle { IfOk result (λ next. IfNone next (cache.new ≡ cache.old)) }
     ensures refused { IfErr result (λ fault. IsWriteRefused cache.new.state fault) }
+    ensures next { IfErr result (λ fault. IsNextRefused cache.new.state fault) }
     ensures same { OnErr result (cache.new ≡ cache.old) }
 {
     cache.headline();
@@ -58,10 +61,12 @@ fn next_job<S: BlockSlot>(cache: &mut Cache<S>) -> Result<Option<Job<S>>, Fault>
 ///
 /// An error is one of `issue` or `retry`, and then nothing was written and nothing changed.
 pub fn write_next<S: BlockSlot>(cache: &mut Cache<S>) -> Result<Option<Settled>, Fault>
+    ensures wrote { IfOk result (λ settled. IfSome settled (λ how. WritesNext cache.old.state how cache.new.state)) }
     ensures one_write { IfOk result (λ settled. IfSome settled (λ _. cache.new.state.tickets ≡ cache.old.state.tickets + 1)) }
     ensures exhausted { IfOk result (λ settled. IfNone settled (IsExhausted cache.new.state)) }
     ensures idle { IfOk result (λ settled. IfNone settled (cache.new ≡ cache.old)) }
     ensures refused { IfErr result (λ fault. IsWriteRefused cache.new.state fault) }
+    ensures next { IfErr result (λ fault. IsNextRefused cache.new.state fault) }
     ensures same { OnErr result (cache.new ≡ cache.old) }
 {
     let Some(job) = next_job(cache)? else {
@@ -77,8 +82,8 @@ pub fn write_next<S: BlockSlot>(cache: &mut Cache<S>) -> Result<Option<Settled>,
 /// Writes until the patch is on disk, or nothing more can be written, or so many writes were made, failed ones among
 /// them. One flight takes at most three.
 ///
-/// An error is one of `issue` or `retry`: `Full(Flights)` where 64 blocks are lost, `Full(Tickets)` or `Memory`. What was
-/// written before it stays written, and the call may be made again.
+/// An error is one of `issue` or `retry`: `Full(Flights)` where 64 blocks are in flight, `Full(Tickets)` or `Memory`. What
+/// was written before it stays written, and the call may be made again.
 pub fn write_until<S: BlockSlot>(
     cache: &mut Cache<S>,
     patch: PatchNo,
@@ -87,8 +92,10 @@ pub fn write_until<S: BlockSlot>(
     ensures on_disk { result ≡ Ok Written.OnDisk → IsDurable cache.new.state patch.0 }
     ensures stuck { result ≡ Ok Written.Stuck → (IsDurable cache.new.state patch.0 → ⊥) × IsExhausted cache.new.state }
     ensures spent { result ≡ Ok Written.Spent → (IsDurable cache.new.state patch.0 → ⊥) × (cache.new.state.tickets ≡ cache.old.state.tickets + most) }
+    ensures writes { WritesUntil patch.0 cache.old.state cache.new.state }
     ensures at_most { cache.new.state.tickets ≤ cache.old.state.tickets + most }
     ensures refused { IfErr result (λ fault. IsWriteRefused cache.new.state fault) }
+    ensures next { IfErr result (λ fault. IsNextRefused cache.new.state fault) }
 {
     for _ in 0..most {
         if is_durable(cache, patch) {

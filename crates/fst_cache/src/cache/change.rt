@@ -1,10 +1,9 @@
 //! Making a change, whatever it comes after: room in the graph, its bytes in its block, then the change in the graph, which
 //! cannot be refused any more. So a refusal leaves all as it was.
 
-ghost use Rattle.std.specs.Prelude.{◌≡◌, ◌<◌, ◌≤◌, ◌+◌, ℕ, Some, IfErr, IfOk, IsErrOf, OnErr, OnOk, MatchOption, MatchResult, slice_index, slice_set};
-ghost use Rattle.fst_types.specs.declared.fault.Fault.{Fault};
+ghost use Rattle.std.specs.Prelude.{◌≡◌, ◌<◌, ◌≤◌, ◌+◌, ℕ, Some, IfErr, IfOk, OnErr, OnOk, MatchOption, MatchResult};
 ghost use Rattle.fst_types.specs.declared.grade.Grade.{Grade};
-ghost use Rattle.fst_types.specs.Residence.{IsResident, Brings, FailsToBring, faults_rose, IsOneFaultMore};
+ghost use Rattle.fst_types.specs.Residence.{faults_rose};
 ghost use Rattle.fst_types.specs.Events.{MadeChange, Refused};
 ghost use Rattle.fst_types.specs.Refusals.{IsFirst, NoneHolds};
 ghost use Rattle.fst_types.specs.Step.{Step};
@@ -12,6 +11,7 @@ ghost use Rattle.fst_block.specs.BlockView.{len_if_soft};
 ghost use Rattle.fst_graph.specs.Known.{Refuses, unprepared};
 ghost use Rattle.fst_cache.specs.After.{adds_after, event_after, order_after, prepared_after};
 ghost use Rattle.fst_cache.specs.Making.{span_order, MayHold};
+ghost use Rattle.fst_cache.specs.Views.{NeedsBlock};
 
 use crate::cache::Cache;
 use crate::share::Share;
@@ -117,13 +117,7 @@ impl<S: BlockSlot> Cache<S> {
             (λ made. Step self.old.state (event_after after.entry share.old block.0 at bytes.now (faults_rose self.old.faults self.new.faults block.0)) (MadeChange made.0.0 made.1) self.new.state)
             (λ fault. Step self.old.state (event_after after.entry share.old block.0 at bytes.now (faults_rose self.old.faults self.new.faults block.0)) (Refused fault) self.new.state) }
         ensures share { MatchResult result (λ made. share.new ≡ share.old + 1) (λ fault. share.new ≡ share.old) }
-        ensures faults { self.new.faults ≡ slice_set self.old.faults block.0 (slice_index self.new.faults block.0) }
-        ensures one_fault { IsOneFaultMore self.old.faults block.0 self.new.faults }
-        ensures no_fault { (IsErrOf result Fault.Device → ⊥) → self.new.faults ≡ self.old.faults }
-        ensures not_read { IsResident self.old.resident block.0 → self.new.faults ≡ self.old.faults }
-        ensures residence { MatchResult result (λ made. Brings self.old.state self.old.resident block.0 self.new.resident) (λ fault. FailsToBring self.old.state self.old.resident block.0 fault self.new.resident) }
-        ensures homes { self.new.homes ≡ self.old.homes }
-        ensures back { self.new.back ≡ self.old.back }
+        ensures beside { NeedsBlock self.old block.0 result self.new }
     {
         if let Some(fault) = self.span_fault(share, block, at, bytes) {
             return Err(fault);

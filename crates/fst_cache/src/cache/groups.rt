@@ -1,17 +1,16 @@
 //! Groups: changes that are on disk only after those of the groups that theirs was put after.
 
-ghost use Rattle.std.specs.Prelude.{◌≡◌, ◌<◌, ◌+◌, IsErrOf, OnErr, MatchResult, slice_index, slice_set};
-ghost use Rattle.fst_types.specs.declared.fault.Fault.{Fault};
-ghost use Rattle.fst_types.specs.Residence.{IsResident, Brings, FailsToBring, faults_rose, IsOneFaultMore};
+ghost use Rattle.std.specs.Prelude.{◌≡◌, ◌<◌, ◌+◌, OnErr, MatchResult};
+ghost use Rattle.fst_types.specs.Residence.{faults_rose};
 ghost use Rattle.fst_types.specs.Events.{GroupNew, GroupAfter, GroupPatch, GroupClose, Made, MadeChange, Accepted, Refused};
 ghost use Rattle.fst_types.specs.Step.{Step};
-ghost use Rattle.fst_cache.specs.Views.{IsSameBeside};
+ghost use Rattle.fst_cache.specs.Views.{IsSameBeside, NeedsBlock};
 
 use crate::cache::Cache;
 use crate::cache::change::After;
 use crate::share::Share;
 use fst_device::BlockSlot;
-use fst_types::{BlockNo, Fault, Grade, GroupNo, PatchNo, Span, What};
+use fst_types::{BlockNo, Fault, Grade, GroupNo, PatchNo, What};
 
 impl<S: BlockSlot> Cache<S> {
     /// Makes a group without changes: a head gate, which gives the group its number, and a tail gate, which depends on
@@ -79,13 +78,7 @@ impl<S: BlockSlot> Cache<S> {
             (λ made. Step self.old.state (GroupPatch share.old group.0 block.0 at bytes.now (faults_rose self.old.faults self.new.faults block.0)) (MadeChange made.0.0 made.1) self.new.state)
             (λ fault. Step self.old.state (GroupPatch share.old group.0 block.0 at bytes.now (faults_rose self.old.faults self.new.faults block.0)) (Refused fault) self.new.state) }
         ensures share { MatchResult result (λ made. share.new ≡ share.old + 1) (λ fault. share.new ≡ share.old) }
-        ensures faults { self.new.faults ≡ slice_set self.old.faults block.0 (slice_index self.new.faults block.0) }
-        ensures one_fault { IsOneFaultMore self.old.faults block.0 self.new.faults }
-        ensures no_fault { (IsErrOf result Fault.Device → ⊥) → self.new.faults ≡ self.old.faults }
-        ensures not_read { IsResident self.old.resident block.0 → self.new.faults ≡ self.old.faults }
-        ensures residence { MatchResult result (λ made. Brings self.old.state self.old.resident block.0 self.new.resident) (λ fault. FailsToBring self.old.state self.old.resident block.0 fault self.new.resident) }
-        ensures homes { self.new.homes ≡ self.old.homes }
-        ensures back { self.new.back ≡ self.old.back }
+        ensures beside { NeedsBlock self.old block.0 result self.new }
     {
         self.change(share, After::InGroup(group), block, at, bytes)
     }

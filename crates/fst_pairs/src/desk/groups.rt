@@ -1,10 +1,10 @@
 //! The cache's calls on groups.
 
-ghost use Rattle.std.specs.Prelude.{◌≡◌, ◌+◌, IsErrOf, OnErr, MatchResult, slice_index, slice_set};
-ghost use Rattle.fst_types.specs.Residence.{IsResident, Brings, FailsToBring, faults_rose, IsOneFaultMore};
+ghost use Rattle.std.specs.Prelude.{◌≡◌, ◌+◌, OnErr, MatchResult};
+ghost use Rattle.fst_types.specs.Residence.{faults_rose};
 ghost use Rattle.fst_types.specs.Events.{GroupNew, GroupAfter, GroupPatch, GroupClose, MadeChange, Made, Accepted, Refused};
 ghost use Rattle.fst_types.specs.Step.{Step};
-ghost use Rattle.fst_cache.specs.Views.{IsSameBeside};
+ghost use Rattle.fst_cache.specs.Views.{IsSameBeside, NeedsBlock};
 
 use crate::desk::Desk;
 use fst_cache::Share;
@@ -69,13 +69,7 @@ impl<S: BlockSlot, A: Allocator> Desk<S, A> {
             (λ made. Step self.old.cache.state (GroupPatch share.old group.0 block.0 at bytes.now (faults_rose self.old.cache.faults self.new.cache.faults block.0)) (MadeChange made.0.0 made.1) self.new.cache.state)
             (λ fault. Step self.old.cache.state (GroupPatch share.old group.0 block.0 at bytes.now (faults_rose self.old.cache.faults self.new.cache.faults block.0)) (Refused fault) self.new.cache.state) }
         ensures share { MatchResult result (λ made. share.new ≡ share.old + 1) (λ fault. share.new ≡ share.old) }
-        ensures faults { self.new.cache.faults ≡ slice_set self.old.cache.faults block.0 (slice_index self.new.cache.faults block.0) }
-        ensures one_fault { IsOneFaultMore self.old.cache.faults block.0 self.new.cache.faults }
-        ensures no_fault { (IsErrOf result Fault.Device → ⊥) → self.new.cache.faults ≡ self.old.cache.faults }
-        ensures not_read { IsResident self.old.cache.resident block.0 → self.new.cache.faults ≡ self.old.cache.faults }
-        ensures residence { MatchResult result (λ made. Brings self.old.cache.state self.old.cache.resident block.0 self.new.cache.resident) (λ fault. FailsToBring self.old.cache.state self.old.cache.resident block.0 fault self.new.cache.resident) }
-        ensures homes { self.new.cache.homes ≡ self.old.cache.homes }
-        ensures back { self.new.cache.back ≡ self.old.cache.back }
+        ensures beside { NeedsBlock self.old.cache block.0 result self.new.cache }
         ensures lanes { self.new ≡ record self.old { cache = self.new.cache } }
     {
         self.cache.group_patch(share, group, block, at, bytes)

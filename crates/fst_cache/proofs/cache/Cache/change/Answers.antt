@@ -1,5 +1,5 @@
 use Rattle.std.proofs.Common.{◌≡◌, ◌≤◌, ◌<◌, ◌+◌, length, refl, ap, inl, inr, arith, sym}
-use Rattle.std.proofs.lemmas.List.{length-map, set-get_or}
+use Rattle.std.proofs.lemmas.List.{length-map}
 use Rattle.fst_types.specs.Step.{refused}
 use Rattle.fst_graph.specs.Known.{Known}
 use Rattle.fst_seat.specs.Residing.{MayLoad}
@@ -13,10 +13,10 @@ use Rattle.fst_cache.proofs.ResideLoading.{Loaded, load_keeps, within_of}
 use Rattle.fst_cache.proofs.MakeReady.{as_long, newest, kept_ready}
 use Rattle.fst_cache.proofs.MakeStep.{IsPut}
 use Rattle.fst_cache.proofs.MakeAfter.{after_changed, after_kept, after_left, after_refused, span_refused}
-use Rattle.fst_cache.proofs.MakeBeside.{faults_made, homes_made, back_made}
+use Rattle.fst_cache.proofs.MakeBeside.{homes_made, back_made}
 use Rattle.fst_cache.proofs.ResideUndo.{undo_is, undo_short}
-use Rattle.fst_cache.proofs.ResideBringing.{brings_put, fails_either, not_read}
-use Rattle.fst_cache.proofs.ResideShowing.{faults_of, load_fault, load_kind, told}
+use Rattle.fst_cache.proofs.ResideBringing.{span_not_device, after_not_device, refused_beside, left_beside, brought_beside, brings_put}
+use Rattle.fst_cache.proofs.ResideShowing.{faults_of, load_fault, load_kind}
 use Rattle.fst_cache.proofs.cache.Cache.change.Goals.{In_default, In-Err-put, After-undo_bytes}
 use Rattle.fst_cache.proofs.cache.Cache.change.Goals as goal
 
@@ -55,50 +55,8 @@ returns-in-Some-clause-step g c = refused (span_refused c.args.self.now.state c.
 pub returns-in-Some-clause-share : goal.returns-in-Some-clause-share
 returns-in-Some-clause-share g c = refl
 
-pub returns-in-Some-clause-faults : goal.returns-in-Some-clause-faults
-returns-in-Some-clause-faults g c = sym (set-get_or c.args.self.now.faults c.args.block.0 0)
-
-pub returns-in-Some-clause-one_fault : goal.returns-in-Some-clause-one_fault
-returns-in-Some-clause-one_fault g c = inl refl
-
-pub returns-in-Some-clause-no_fault : goal.returns-in-Some-clause-no_fault
-returns-in-Some-clause-no_fault g c = λ _. refl
-
-pub returns-in-Some-clause-not_read : goal.returns-in-Some-clause-not_read
-returns-in-Some-clause-not_read g c = λ _. refl
-
-pub returns-in-Some-clause-residence : goal.returns-in-Some-clause-residence
-returns-in-Some-clause-residence g c = inl refl
-
-pub returns-in-Some-clause-homes : goal.returns-in-Some-clause-homes
-returns-in-Some-clause-homes g c = refl
-
-pub returns-in-Some-clause-back : goal.returns-in-Some-clause-back
-returns-in-Some-clause-back g c = refl
-
 pub returns-in-Err-clause-share : goal.returns-in-Err-clause-share
 returns-in-Err-clause-share g c = refl
-
-pub returns-in-Err-clause-faults : goal.returns-in-Err-clause-faults
-returns-in-Err-clause-faults g c = rw (← c.self.view_is) (sym (set-get_or (faults_of c.self.inside.seats.seats) c.args.block.0 0))
-
-pub returns-in-Err-clause-one_fault : goal.returns-in-Err-clause-one_fault
-returns-in-Err-clause-one_fault g c = rw (← c.self.view_is) (inl refl)
-
-pub returns-in-Err-clause-no_fault : goal.returns-in-Err-clause-no_fault
-returns-in-Err-clause-no_fault g c = rw (← c.self.view_is) (λ _. refl)
-
-pub returns-in-Err-clause-not_read : goal.returns-in-Err-clause-not_read
-returns-in-Err-clause-not_read g c = rw (← c.self.view_is) (λ _. refl)
-
-pub returns-in-Err-clause-residence : goal.returns-in-Err-clause-residence
-returns-in-Err-clause-residence g c = rw (← c.self.view_is) (inl refl)
-
-pub returns-in-Err-clause-homes : goal.returns-in-Err-clause-homes
-returns-in-Err-clause-homes g c = rw (← c.self.view_is) refl
-
-pub returns-in-Err-clause-back : goal.returns-in-Err-clause-back
-returns-in-Err-clause-back g c = rw (← c.self.view_is) refl
 
 pub returns-in-Err-put-clause-share : goal.returns-in-Err-put-clause-share
 returns-in-Err-put-clause-share g c = refl
@@ -176,31 +134,6 @@ returns-in-Err-put-clause-step g c =
     (after_left c.self.inside c.self.invariant c.in-Ok.ensures.prepared c.args.share.now c.args.block.0 c.args.at c.args.bytes.now may c.args.after c.put.new.self c.put.ensures.most (loads g at) c.in-Ok.ensures.clear c.in-Err-put.fault
     (load_fault _ c.in-Err-put.fault _ refl c.in-Err-put.ensures.kinds c.in-Err-put.ensures.device))
 
-pub returns-in-Err-put-clause-faults : goal.returns-in-Err-put-clause-faults
-returns-in-Err-put-clause-faults g c = rw (← c.self.view_is) (still g (goal.at.returns-in-Err-put-clause-faults g c).In-Err-put).faults
-
-pub returns-in-Err-put-clause-homes : goal.returns-in-Err-put-clause-homes
-returns-in-Err-put-clause-homes g c = rw (← c.self.view_is) (still g (goal.at.returns-in-Err-put-clause-homes g c).In-Err-put).homes
-
-pub returns-in-Err-put-clause-back : goal.returns-in-Err-put-clause-back
-returns-in-Err-put-clause-back g c = rw (← c.self.view_is) (still g (goal.at.returns-in-Err-put-clause-back g c).In-Err-put).back
-
-pub returns-in-Err-put-clause-one_fault : goal.returns-in-Err-put-clause-one_fault
-returns-in-Err-put-clause-one_fault g c = rw (← c.self.view_is) c.put.ensures.one_fault
-
-pub returns-in-Err-put-clause-no_fault : goal.returns-in-Err-put-clause-no_fault
-returns-in-Err-put-clause-no_fault g c = rw (← c.self.view_is) (λ fine. c.in-Err-put.ensures.no_fault (λ d. fine (told c.in-Err-put.fault c.in-Err-put.fault refl d)))
-
--- which blocks are in memory then
-pub returns-in-Err-put-clause-not_read : goal.returns-in-Err-put-clause-not_read
-returns-in-Err-put-clause-not_read g c = rw (← c.self.view_is) (not_read c.self.inside c.self.invariant (loads g (goal.at.returns-in-Err-put-clause-not_read g c).In-Err-put))
-
-pub returns-in-Err-put-clause-residence : goal.returns-in-Err-put-clause-residence
-returns-in-Err-put-clause-residence g c =
-    rw (← c.self.view_is)
-    (fails_either c.self.inside c.self.invariant _ c.in-Err-put.fault refl (loads g (goal.at.returns-in-Err-put-clause-residence g c).In-Err-put) c.in-Err-put.ensures.away
-    (load_kind _ c.in-Err-put.fault refl c.in-Err-put.ensures.kinds))
-
 pub overflow_add-self : goal.overflow_add-self
 overflow_add-self g c =
     let same = undo_is c.self.inside c.self.invariant in
@@ -219,23 +152,25 @@ returns-clause-step g c =
     let may = may_hold g (goal.at.returns-clause-step g c).In_default in
     rw (← c.self.view_is) (after_changed c.self.inside c.self.invariant c.in-Ok.ensures.prepared c.args.share.now c.args.block.0 c.args.at c.args.bytes.now may c.args.after (put g at) _ (adds g at) _)
 
-pub returns-clause-faults : goal.returns-clause-faults
-returns-clause-faults g c = rw (← c.self.view_is) (faults_made c.self.inside c.self.invariant (put g (goal.at.returns-clause-faults g c).After-undo_bytes).puts)
+-- which blocks are in memory then, and what is counted
+pub returns-in-Some-clause-beside : goal.returns-in-Some-clause-beside
+returns-in-Some-clause-beside g c =
+    refused_beside c.args.self.now c.args.self.now c.args.block.0 c.in-Some.fault (span_not_device c.args.self.now.state c.args.share.now c.args.block.0 c.args.at c.args.bytes.now c.in-Some.fault c.in-Some.ensures) refl refl refl refl
 
-pub returns-clause-homes : goal.returns-clause-homes
-returns-clause-homes g c = rw (← c.self.view_is) (homes_made c.self.inside c.self.invariant (put g (goal.at.returns-clause-homes g c).After-undo_bytes).puts)
+pub returns-in-Err-clause-beside : goal.returns-in-Err-clause-beside
+returns-in-Err-clause-beside g c =
+    rw (← c.self.view_is) (refused_beside _ _ _ c.in-Err.fault (after_not_device c.args.after (state_of c.self.inside) _ _ _ c.in-Err.fault c.in-Err.ensures.refused) refl refl refl refl)
 
-pub returns-clause-back : goal.returns-clause-back
-returns-clause-back g c = rw (← c.self.view_is) (back_made c.self.inside c.self.invariant (put g (goal.at.returns-clause-back g c).After-undo_bytes).puts)
+pub returns-in-Err-put-clause-beside : goal.returns-in-Err-put-clause-beside
+returns-in-Err-put-clause-beside g c =
+    let at = (goal.at.returns-in-Err-put-clause-beside g c).In-Err-put in
+    rw (← c.self.view_is)
+    (left_beside c.self.inside c.self.invariant c.in-Err-put.fault _ _ refl refl refl refl refl (still g at) (loads g at) (load_kind _ c.in-Err-put.fault refl c.in-Err-put.ensures.kinds) c.in-Err-put.ensures.away c.in-Err-put.ensures.device
+    c.put.ensures.one_fault c.in-Err-put.ensures.no_fault)
 
-pub returns-clause-one_fault : goal.returns-clause-one_fault
-returns-clause-one_fault g c = rw (← c.self.view_is) (inl (quiet g (goal.at.returns-clause-one_fault g c).After-undo_bytes))
-
-pub returns-clause-no_fault : goal.returns-clause-no_fault
-returns-clause-no_fault g c = rw (← c.self.view_is) (λ _. quiet g (goal.at.returns-clause-no_fault g c).After-undo_bytes)
-
-pub returns-clause-not_read : goal.returns-clause-not_read
-returns-clause-not_read g c = rw (← c.self.view_is) (λ _. quiet g (goal.at.returns-clause-not_read g c).After-undo_bytes)
-
-pub returns-clause-residence : goal.returns-clause-residence
-returns-clause-residence g c = rw (← c.self.view_is) (brings_put c.self.inside c.self.invariant (put g (goal.at.returns-clause-residence g c).After-undo_bytes).puts)
+pub returns-clause-beside : goal.returns-clause-beside
+returns-clause-beside g c =
+    let at = (goal.at.returns-clause-beside g c).After-undo_bytes in
+    let puts = (put g at).puts in
+    rw (← c.self.view_is)
+    (brought_beside c.self.inside c.self.invariant c.put.new.self.seats _ _ refl refl refl refl (brings_put c.self.inside c.self.invariant puts) (quiet g at) (homes_made c.self.inside c.self.invariant puts) (back_made c.self.inside c.self.invariant puts))

@@ -12,7 +12,7 @@ loop-block-init g c = (c.in_ok-text.ensures.ok ∙ sym (told-none c.args.made), 
 pub loop-block-preserved : goal.loop-block-preserved
 loop-block-preserved g c =
     let after = rw c.in_ok-bytes.was at c.show.follows.holds-at-none in
-    let bytes = shown_bytes _ _ _ _ _ after.4 in
+    let bytes = shown_bytes _ _ _ _ _ after.2 in
     (next_line _ _ _ _ _ _ _ c.loop-block.invariant.0 c.in_ok-add_line.ensures bytes c.loop-block.invariant.1, after.0 ∙ c.loop-block.invariant.1)
 
 pub returns : goal.returns

@@ -8,8 +8,8 @@ returns g c =
     elim c.match-show.branch [
       | in-Ok w ↦
           let after = rw w.in-Ok.is at c.show.follows.holds-at-none in
-          rw (← c.self.view_is, w.writer-is, w.result-is, w.self-inside-is) (Obeyed-called _ _ _ _ _ _ _ _ _ _ refl after.4 refl w.send_show.ensures)
+          rw (← c.self.view_is, w.writer-is, w.result-is, w.self-inside-is) (Obeyed-called _ _ _ _ _ _ _ _ _ _ refl after.2 refl w.send_show.ensures)
       | in-Err w ↦
           let after = rw w.in-Err.is at c.show.follows.holds-at-none in
-          rw (← c.self.view_is, w.writer-is, w.result-is, w.self-inside-is) (Obeyed-called _ _ _ _ _ _ _ _ _ _ refl after.4 refl w.send_refusal.ensures)
+          rw (← c.self.view_is, w.writer-is, w.result-is, w.self-inside-is) (Obeyed-called _ _ _ _ _ _ _ _ _ _ refl after.2 refl w.send_refusal.ensures)
     ]
